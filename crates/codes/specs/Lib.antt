@@ -1,0 +1,7 @@
+-- What a reader has to believe: `Code` (what n and g may be, code words), `Mending` (patterns, carrying a rule, mending a word), `Coding` (messages and
+-- code words) and `Calls` (what the calls hand back). `Row` computes, and is proved to agree with them.
+pub mod Code
+pub mod Mending
+pub mod Coding
+pub mod Calls
+pub mod Row

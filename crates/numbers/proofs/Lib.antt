@@ -1,0 +1,4 @@
+pub mod Fitting
+pub mod Searching
+pub mod Answering
+pub mod Settled

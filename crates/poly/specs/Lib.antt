@@ -1,0 +1,6 @@
+-- Polynomials with coefficients 0 and 1. `Poly`, `Cells` and `Register` are what a reader has to believe.
+-- `Shifts` computes, and is proved to agree with those.
+pub mod Poly
+pub mod Cells
+pub mod Register
+pub mod Shifts

@@ -1,0 +1,4 @@
+pub mod Order
+pub mod Decimal
+pub mod Puts
+pub mod Filling

@@ -1,0 +1,67 @@
+// Bytes and numbers in decimal, written into a lent slice at a place.
+ghost use Prim.Native.Nat.{_+_};
+ghost use mathlib.Core.Path.{_≡_};
+ghost use lib.Dec.{leb};
+ghost use lib.ListN.{length};
+ghost use Rattle.text.specs.Text.{decimal, Puts};
+
+// Writes the text `bytes` into the slice from place `at` on and hands back the place after it. If it does not fit, nothing is written and `at` is handed back.
+pub fn put_bytes(out: &mut [u8], at: usize, bytes: &[u8]) -> usize
+    ensures { λ r. ⌜ Puts (now (bytes .entry)) (now (out .entry)) at (now (out .exit)) r ⌝ }
+{
+    if !has_room(out.len(), at, bytes.len()) {
+        return at;
+    }
+    let mut i = 0;
+    while i < bytes.len() {
+        out[at + i] = bytes[i];
+        i += 1;
+    }
+    at + i
+}
+
+// Writes the number in decimal, with no leading zeros and 0 as `0`; the same. The digits go straight to their places, from the last to the first.
+pub fn put_number(out: &mut [u8], at: usize, value: u64) -> usize
+    ensures { λ r. ⌜ Puts (decimal value) (now (out .entry)) at (now (out .exit)) r ⌝ }
+{
+    let digits = count_digits(value);
+    if !has_room(out.len(), at, digits) {
+        return at;
+    }
+    let end = at + digits;
+    let mut i = end;
+    let mut v = value;
+    while 10 <= v {
+        i -= 1;
+        out[i] = 48 + (v % 10) as u8;
+        v = v / 10;
+    }
+    out[at] = 48 + v as u8;
+    end
+}
+
+// How many digits the number has: 20 at most, since 10^20 is above 2^64.
+fn count_digits(value: u64) -> usize
+    ensures { λ r. ⌜ r ≡ length (decimal value) ⌝ }
+{
+    let mut digits = 1;
+    let mut power: u64 = 10;
+    while power <= value {
+        if digits == 19 {
+            return 20;
+        }
+        power = power * 10;
+        digits += 1;
+    }
+    digits
+}
+
+// Whether `count` bytes from place `at` on lie in a slice of `len` bytes.
+fn has_room(len: usize, at: usize, count: usize) -> bool
+    ensures { λ r. ⌜ r ≡ leb (at + count) len ⌝ }
+{
+    if len < at {
+        return false;
+    }
+    count <= len - at
+}

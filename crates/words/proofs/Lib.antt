@@ -1,0 +1,4 @@
+pub mod Cutting
+pub mod Copying
+pub mod Lending
+pub mod Settled

@@ -1,0 +1,16 @@
+-- What private functions promise. Assumes nothing.
+use mathlib.Core.Path.{_≡_}
+use mathlib.Core.Bool.{Bool, true, false}
+use Prim.Native.Nat.{ℕ}
+use Rattle.verdict.specs.Verdict.{Check}
+use Rattle.codes.specs.Code.{MessageLength}
+use Rattle.codes.specs.Coding.{First, Product}
+
+-- `slicesCheck` of a message and a word of these lengths.
+abbrev pub lengthsCheck : ℕ → ℕ → ℕ → ℕ → Check
+lengthsCheck n g message word = record { number = 6; passes = MessageLength n g message × (word ≡ n) }
+
+-- The message of a code word by the product rule, and by the systematic one.
+abbrev pub says : Bool → ℕ → ℕ → ℕ → Type 0
+says true = Product
+says false = First
