@@ -1,7 +1,8 @@
 -- What the functions of the checks cite: what follows from the checks, and what they compute.
 -- Assumes nothing.
-use mathlib.Core.Path.{_≡_, refl, ap, _∙_}
-use mathlib.Core.List.{List, []}
+use mathlib.Core.Path.{_≡_}
+use mathlib.Core.Bool.{Bool}
+use mathlib.Core.List.{List}
 use Prim.Native.Nat.{ℕ, suc, _+_, _*_, _%_, _^_, _≤_, _<_}
 use native.Mathlib.Decide.{ℕ-discrete}
 use native.Mathlib.Nat.{one-mul, mod-eq-of-lt, lt-of-lt-of-le}
@@ -12,8 +13,8 @@ use lib.Seq.{getD-set-same, getD-set-other}
 use Rattle.poly.specs.Poly.{sum, Degree, Divided, Remainder, Divides}
 use Rattle.poly.proofs.Degree.{degree-pos, degree-unique}
 use Rattle.poly.proofs.Division.{remainder-of, divides-remainder, remainder-divides, remainder-unique}
-use Rattle.verdict.specs.Verdict.{Verdict, Passed, Where}
-use Rattle.verdict.proofs.Verdict.{verdict-settled, verdict-passed, passed-on, passed-first, passed-last}
+use Rattle.verdict.specs.Verdict.{Verdict, Passed, Tells, Where}
+use Rattle.verdict.proofs.Verdict.{verdict-settled, verdict-passed, tells-settled, passed-on, passed-first, passed-last}
 use Rattle.codes.specs.Code.{Generator, codeChecks}
 use Rattle.codes.specs.Mending.{Pattern, Carries, carryChecks, ruleChecks}
 use Rattle.codes.specs.Row.{Given}
@@ -111,3 +112,6 @@ check-code-settled {n} {g} = verdict-settled (codeChecks n g)
 
 pub check-rule-settled : {n g rule m m′ : ℕ} → Verdict (ruleChecks n g rule) m → Verdict (ruleChecks n g rule) m′ → m ≡ m′
 check-rule-settled {n} {g} {rule} = verdict-settled (ruleChecks n g rule)
+
+pub comes-first-settled : {m : ℕ} {b c : Bool} → Tells ((0 < m) × (m < 6)) b → Tells ((0 < m) × (m < 6)) c → b ≡ c
+comes-first-settled = tells-settled

@@ -5,3 +5,4 @@ pub mod Row
 pub mod Checking
 pub mod Coding
 pub mod Settled
+pub mod Cutting

@@ -1,6 +1,6 @@
 // The checks of a code and a rule: numbers 1 to 5.
 ghost use mathlib.Core.Path.{_≡_};
-ghost use Prim.Native.Nat.{_+_, _*_, _≤_};
+ghost use Prim.Native.Nat.{_+_, _*_, _≤_, _<_};
 ghost use Rattle.poly.specs.Poly.{Remainder};
 ghost use Rattle.verdict.specs.Verdict.{Verdict, Tells};
 ghost use Rattle.codes.specs.Code.{Generator, codeChecks};
@@ -137,4 +137,17 @@ pub fn check_rule(n: usize, g: u64, rule: u64) -> u64
         return 5;
     }
     0
+}
+
+// Whether a number is one of 1 to 5: those of a code and a rule come before those of cells and words.
+pub fn comes_first(m: u64) -> bool
+    ensures { λ b. ⌜ Tells ((0 < m) × (m < 6)) b ⌝ }
+{
+    if m == 0 {
+        return false;
+    }
+    if 5 < m {
+        return false;
+    }
+    true
 }

@@ -6,6 +6,7 @@ ghost use Rattle.verdict.specs.Verdict.{Verdict};
 ghost use Rattle.division.specs.Division.{Quotient, Divides, LeavesLow, LeavesHigh};
 ghost use Rattle.division.specs.Within.{Stages, checks, Fit, Side, shiftAt, Leaves};
 
+#[repr(C)]
 pub struct Outcome {
     pub number: u64,
     pub remainder: u64,

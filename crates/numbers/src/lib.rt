@@ -12,11 +12,13 @@ ghost use Rattle.codes.specs.Row.{Given};
 ghost use Rattle.codes.proofs.Checking.{Code};
 ghost use Rattle.numbers.specs.Finding.{FirstShift, Finds, FindsCode};
 
+#[repr(C)]
 pub struct Value {
     pub number: u64,
     pub value: u64,
 }
 
+#[repr(C)]
 pub struct Decoding {
     pub number: u64,
     pub message: u64,

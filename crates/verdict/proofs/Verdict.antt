@@ -134,6 +134,13 @@ tells-yes a = record { yes = λ e. a; no = λ e. absurd (true≢false e) }
 pub tells-no : {A : Type 0} → (A → ⊥) → Tells A false
 tells-no f = record { yes = λ e. absurd (true≢false (sym e)); no = λ e a. f a }
 
+-- two answers that tell of one thing are equal
+pub tells-settled : {A : Type 0} {b c : Bool} → Tells A b → Tells A c → b ≡ c
+tells-settled {b = true} {c = true} s t = refl
+tells-settled {b = true} {c = false} s t = absurd (t .no refl (s .yes refl))
+tells-settled {b = false} {c = true} s t = absurd (s .no refl (t .yes refl))
+tells-settled {b = false} {c = false} s t = refl
+
 -- what is known to hold, or to fail, leaves one side
 pub where-holds : {A B C : Type 0} → A → B → Where A B C
 where-holds a b = record { holds = λ h. b; fails = λ f. absurd (f a) }

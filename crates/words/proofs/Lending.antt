@@ -23,7 +23,7 @@ use Rattle.codes.specs.Calls.{MessageFits, messageCheck, wordCheck, readableChe
 use Rattle.codes.proofs.Checking.{Code, Allowed, code-of, of-code, allowed-of, of-allowed, generator-degree, generator-r}
 use Rattle.codes.proofs.Coding.{systematic-first, systematic-word, product-word, first-fits, product-fits}
 use Rattle.words.specs.Within.{says}
-use Rattle.words.proofs.Cutting.{first-number, first-passed}
+use Rattle.codes.proofs.Cutting.{first-number, first-passed}
 
 -- ---- cells that stand for a number
 

@@ -1,4 +1,3 @@
-pub mod Cutting
 pub mod Copying
 pub mod Lending
 pub mod Settled

@@ -1,21 +1,23 @@
 // The calls on a code with words and messages as lent cells, first cell first.
 ghost use mathlib.Core.Path.{_≡_};
 ghost use mathlib.Core.List.{List, [], _∷_, _++_};
-ghost use Prim.Native.Nat.{_-_, _≤_, _<_};
+ghost use Prim.Native.Nat.{_-_, _≤_};
 ghost use lib.ListN.{length, drop};
 ghost use Rattle.poly.specs.Cells.{cells};
 ghost use Rattle.cells.specs.Lent.{cellsCheck};
-ghost use Rattle.verdict.specs.Verdict.{Verdict, Tells};
+ghost use Rattle.verdict.specs.Verdict.{Verdict};
 ghost use Rattle.codes.specs.Coding.{Systematic, Product, First};
 ghost use Rattle.codes.specs.Calls.{Decodes, EncodesCells, LeavesCells, DecodesCells};
 ghost use Rattle.codes.proofs.Checking.{Code};
 ghost use Rattle.words.specs.Within.{lengthsCheck, says};
 
+#[repr(C)]
 pub struct Outcome {
     pub number: u64,
     pub remainder: u64,
 }
 
+#[repr(C)]
 pub struct Answer {
     pub number: u64,
     pub mended: u64,
@@ -36,19 +38,6 @@ fn lent_number(n: usize, g: u64, message: usize, word: usize, input: &[u8]) -> u
         return 7;
     }
     0
-}
-
-// Whether a number is one of 1 to 5, which come before those of lent cells.
-fn comes_first(m: u64) -> bool
-    ensures { λ b. ⌜ Tells ((0 < m) × (m < 6)) b ⌝ }
-{
-    if m == 0 {
-        return false;
-    }
-    if 5 < m {
-        return false;
-    }
-    true
 }
 
 // A refusal has zeros beside its number.
@@ -89,7 +78,7 @@ pub fn encode_systematic(n: usize, g: u64, message: &[u8], word: &mut [u8]) -> u
 {
     let x = numbers::encode_systematic(n, g, cells::number_of(message));
     let m = x.number;
-    if comes_first(m) {
+    if codes::comes_first(m) {
         return m;
     }
     let l = lent_number(n, g, message.len(), word.len(), message);
@@ -106,7 +95,7 @@ pub fn encode_product(n: usize, g: u64, message: &[u8], word: &mut [u8]) -> u64
 {
     let x = numbers::encode_product(n, g, cells::number_of(message));
     let m = x.number;
-    if comes_first(m) {
+    if codes::comes_first(m) {
         return m;
     }
     let l = lent_number(n, g, message.len(), word.len(), message);
@@ -163,7 +152,7 @@ fn decode(product: bool, n: usize, g: u64, rule: u64, word: &[u8], message: &mut
 {
     let x = decode_number(product, n, g, rule, cells::number_of(word));
     let m = x.number;
-    if comes_first(m) {
+    if codes::comes_first(m) {
         return refused(m);
     }
     let l = lent_number(n, g, message.len(), word.len(), word);
