@@ -3,19 +3,19 @@
 use mathlib.Core.Path.{_≡_}
 use mathlib.Core.Bool.{Bool}
 use mathlib.Core.List.{List}
-use Prim.Native.Nat.{ℕ, suc, _+_, _*_, _%_, _^_, _≤_, _<_}
+use Prim.Native.Nat.{ℕ, _+_, _-_, _*_, _%_, _^_, _≤_, _<_}
 use native.Mathlib.Decide.{ℕ-discrete}
 use native.Mathlib.Nat.{one-mul, mod-eq-of-lt, lt-of-lt-of-le}
 use native.Mathlib.Omega.{arith}
 use lib.ListN.{length, getD, set}
 use lib.Pow.{pow-lt, pow-mono}
 use lib.Seq.{getD-set-same, getD-set-other}
-use Rattle.poly.specs.Poly.{sum, Degree, Divided, Remainder, Divides}
+use Rattle.poly.specs.Poly.{sum, Degree, Divided, Divides}
 use Rattle.poly.proofs.Degree.{degree-pos, degree-unique}
 use Rattle.poly.proofs.Division.{remainder-of, divides-remainder, remainder-divides, remainder-unique}
 use Rattle.verdict.specs.Verdict.{Verdict, Passed, Tells, Where}
 use Rattle.verdict.proofs.Verdict.{verdict-settled, verdict-passed, tells-settled, passed-on, passed-first, passed-last}
-use Rattle.codes.specs.Code.{Generator, codeChecks}
+use Rattle.codes.specs.Code.{Generator, MessageLength, codeChecks}
 use Rattle.codes.specs.Mending.{Pattern, Carries, carryChecks, ruleChecks}
 use Rattle.codes.specs.Row.{Given}
 
@@ -81,6 +81,14 @@ code-given c w =
       one = omega (arith, e, c .generator .least);
       few = omega (arith, e, c .generator .most);
     }
+
+-- ---- a message has k = n - r cells
+
+pub message-room : {n g r k : ℕ} → Degree g r → r ≤ n → k ≡ n - r → MessageLength n g k
+message-room {r = r} h l e = record { r = r; degree = h; whole = omega (arith, l, e) }
+
+pub message-length : {n g r k : ℕ} → Degree g r → MessageLength n g k → k ≡ n - r
+message-length h m = omega (arith, m .whole, degree-unique (m .degree) h)
 
 -- ---- what is computed
 

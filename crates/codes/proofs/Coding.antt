@@ -2,28 +2,23 @@
 -- wrote gives the message back with nothing mended, and both decoders accept the same words.
 -- Assumes nothing.
 use mathlib.Core.Path.{_≡_, refl, sym, ap, ap₂, _∙_}
-use mathlib.Core.List.{List, [], _∷_, _++_}
-use mathlib.Core.Logic.{inl, inr}
 use Prim.Native.Nat.{ℕ, _+_, _*_, _/_, _%_, _^_, _<_}
-use native.Mathlib.Nat.{lt-of-lt-of-le}
 use native.Mathlib.Omega.{arith}
 use lib.Count.{ones}
 use lib.Arith.{digits-lt}
 use lib.Pow.{pow-add, high, shr-lt}
-use Rattle.poly.specs.Poly.{sum, times, Degree, Remainder, Divides}
+use Rattle.poly.specs.Poly.{sum, times, Divides}
 use Rattle.poly.proofs.Sum.{sum-self, sum-shifted}
-use Rattle.poly.proofs.Degree.{degree-pos, degree-unique, times-lt}
+use Rattle.poly.proofs.Degree.{degree-unique, times-lt}
 use Rattle.poly.proofs.Division.{lower-lt, remainder-unique}
 use Rattle.poly.proofs.Multiples.{divides-systematic, divides-unique, times-cancel, factor-lt}
-use Rattle.verdict.specs.Verdict.{Check, Passed, Settles}
-use Rattle.verdict.proofs.Verdict.{verdict-settled, settled, settles-done}
 use Rattle.codes.specs.Code.{MessageLength, CodeWord}
-use Rattle.codes.specs.Mending.{Pattern, none, Mends, ruleChecks}
+use Rattle.codes.specs.Mending.{Pattern, none, Mends}
 use Rattle.codes.specs.Coding.{Systematic, Product, First, Decoded}
-use Rattle.codes.specs.Calls.{MessageFits, Decodes, wordCheck, readableCheck}
+use Rattle.codes.specs.Calls.{MessageFits}
 use Rattle.codes.proofs.Patterns.{Laws, mends-unique}
 use Rattle.codes.proofs.Rules.{rule-laws}
-use Rattle.codes.proofs.Checking.{Allowed, allowed-of}
+use Rattle.codes.proofs.Checking.{Allowed}
 
 -- ---- systematic words
 

@@ -1,11 +1,10 @@
 -- The numbers 1 to 5 of a code and a rule come before those of lent cells: where a call on numbers gives one of them it is the number of the call on
 -- cells, and else the checks of code and rule passed.
 -- Assumes nothing.
-use mathlib.Core.Path.{_≡_, refl, sym, _∙_}
 use mathlib.Core.Bool.{Bool, true, false, _&&_}
 use mathlib.Core.List.{List, [], _∷_, _++_}
 use mathlib.Core.Logic.{_⊎_, inl, inr}
-use Prim.Native.Nat.{ℕ, _≤_, _<_}
+use Prim.Native.Nat.{ℕ, _<_}
 use native.Mathlib.Omega.{arith}
 use lib.Dec.{T, ltb, leb, ltb→lt, leb→le}
 use Rattle.verdict.specs.Verdict.{Check, Verdict, Passed}

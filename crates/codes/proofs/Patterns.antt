@@ -1,17 +1,16 @@
 -- Any set of patterns that is closed under taking parts and that the code carries: a word has at most one mending, and x^i times a pattern is
 -- known by its remainder.
 -- Assumes nothing.
-use mathlib.Core.Path.{_≡_, sym, _∙_}
+use mathlib.Core.Path.{_≡_, _∙_}
 use mathlib.Core.Logic.{_⊎_, inl, inr}
 use Prim.Native.Nat.{ℕ, suc, _*_, _%_, _^_, _<_}
 use native.Mathlib.Omega.{arith}
-use Rattle.poly.specs.Poly.{sum, coefficient, Remainder, Divides}
+use Rattle.poly.specs.Poly.{sum, coefficient, Remainder}
 use Rattle.poly.specs.Shifts.{divide}
-use Rattle.poly.proofs.Sum.{sum-comm, sum-back, sum-cancel, sum-lt}
-use Rattle.poly.proofs.Division.{remainder-same, remainder-differ, remainder-unique, divide-remainder, divides-remainder, remainder-divides}
+use Rattle.poly.proofs.Sum.{sum-back, sum-cancel, sum-lt}
+use Rattle.poly.proofs.Division.{remainder-same, remainder-differ, divide-remainder}
 use Rattle.poly.proofs.Multiples.{remainder-unshift}
-use Rattle.codes.specs.Code.{CodeWord}
-use Rattle.codes.specs.Mending.{Carries, Mends, Readable}
+use Rattle.codes.specs.Mending.{Carries, Mends}
 use Rattle.codes.proofs.Digits.{digit-cases, rest-coefficient, rest-zero, rest-one}
 
 -- What a set of patterns of n places has to have.

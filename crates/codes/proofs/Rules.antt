@@ -1,41 +1,16 @@
 -- The patterns of rules 0 to 2 are such a set.
 -- Assumes nothing.
-use mathlib.Core.Path.{_≡_, refl, sym, ap, _∙_}
+use mathlib.Core.Path.{_≡_, ap}
 use mathlib.Core.Logic.{_⊎_, inl, inr}
 use Prim.Native.Nat.{ℕ, suc, _-_, _%_, _^_, _≤_, _<_}
-use native.Mathlib.Decide.{ℕ-discrete}
-use native.Mathlib.Nat.{one-mul, zero-div, le-refl}
+use native.Mathlib.Nat.{zero-div}
 use native.Mathlib.Omega.{arith}
 use lib.Pow.{pow-pos, pow-lt}
 use Rattle.poly.specs.Poly.{sum, coefficient}
 use Rattle.poly.proofs.Sum.{sum-lt, sum-self, sum-back, sum-comm, sum-assoc, sum-zero}
-use Rattle.poly.proofs.Coefficient.{lt-or-le, coefficient-past, coefficient-sum, coefficient-under}
+use Rattle.poly.proofs.Coefficient.{power-place, pair-place}
 use Rattle.codes.specs.Mending.{Pattern, none, single, pair, ends, Carries}
 use Rattle.codes.proofs.Patterns.{Laws}
-
--- x^j has no other place
-power-other : (j i : ℕ) → (i ≡ j → ⊥) → coefficient (2 ^ j) i ≡ 0
-power-other j i ne = go (lt-or-le i j)
-  where
-    go : (i < j) ⊎ (j ≤ i) → coefficient (2 ^ j) i ≡ 0
-    go (inl l) = rw (one-mul (2 ^ j)) at (coefficient-under 1 l)
-    go (inr l) = coefficient-past (2 ^ j) (suc j) i (pow-lt (le-refl (suc j))) (omega (arith, ne))
-
--- a place of x^j
-power-place : (j i : ℕ) → coefficient (2 ^ j) i ≡ 1 → i ≡ j
-power-place j i h = go (ℕ-discrete i j)
-  where
-    go : Dec (i ≡ j) → i ≡ j
-    go (yes e) = e
-    go (no f) = let n : ⊥ = omega (arith, power-other j i f) in absurd n
-
--- a place of x^j + x^k
-pair-place : (j k i : ℕ) → coefficient (sum (2 ^ j) (2 ^ k)) i ≡ 1 → (i ≡ j) ⊎ (i ≡ k)
-pair-place j k i h = go (ℕ-discrete i j)
-  where
-    go : Dec (i ≡ j) → (i ≡ j) ⊎ (i ≡ k)
-    go (yes e) = inl e
-    go (no f) = inr (power-place k i (sym (ap (λ (x : ℕ). sum x (coefficient (2 ^ k) i)) (power-other j i f)) ∙ sym (coefficient-sum (2 ^ j) (2 ^ k) i) ∙ h))
 
 module _ (n : ℕ) (P : ℕ → Type 0) (one : (i : ℕ) → i < n → P (2 ^ i)) where
   -- two places, less one of them

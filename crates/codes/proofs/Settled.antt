@@ -2,17 +2,16 @@
 -- Assumes nothing.
 use mathlib.Core.Path.{_≡_, sym, ap, _∙_}
 use mathlib.Core.List.{List, [], _∷_, _++_}
-use Prim.Native.Nat.{ℕ, _^_, _<_}
+use Prim.Native.Nat.{ℕ}
 use lib.Count.{ones}
-use lib.ListN.{length}
 use Rattle.poly.specs.Poly.{sum}
-use Rattle.poly.specs.Cells.{Cells, poly}
-use Rattle.poly.proofs.Cells.{poly-injective, poly-lt}
+use Rattle.poly.specs.Cells.{poly}
+use Rattle.poly.proofs.Cells.{poly-injective}
 use Rattle.poly.proofs.Division.{remainder-unique}
-use Rattle.verdict.specs.Verdict.{Check, Passed, Settles}
+use Rattle.verdict.specs.Verdict.{Check, Passed}
 use Rattle.verdict.proofs.Verdict.{verdict-settled, settled, settles-done, passed-on, passed-first}
 use Rattle.cells.specs.Lent.{cellsCheck}
-use Rattle.codes.specs.Code.{CodeWord, codeChecks, MessageLength}
+use Rattle.codes.specs.Code.{CodeWord, codeChecks}
 use Rattle.codes.specs.Mending.{Pattern, ruleChecks}
 use Rattle.codes.specs.Coding.{Systematic, Product, First, Decoded}
 use Rattle.codes.specs.Calls.{MessageFits, messageCheck, wordCheck, readableCheck, slicesCheck, sliceCheck, Encodes, Leaves, Decodes, EncodesCells, LeavesCells, DecodesCells, Written}

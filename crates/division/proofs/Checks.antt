@@ -1,6 +1,6 @@
 -- What the checks of plain division tell: the register that the loops ask for, and what a call hands back.
 -- Assumes nothing.
-use mathlib.Core.Path.{_≡_, refl, sym, _∙_}
+use mathlib.Core.Path.{_≡_, refl}
 use mathlib.Core.List.{List, [], _∷_, _++_}
 use mathlib.Core.Logic.{_⊎_, inl, inr}
 use Prim.Native.Nat.{ℕ, _<_}
@@ -12,7 +12,7 @@ use Rattle.poly.specs.Poly.{Degree}
 use Rattle.poly.proofs.Degree.{degree-pos, degree-unique}
 use Rattle.cells.specs.Lent.{cellsCheck}
 use Rattle.verdict.specs.Verdict.{Check, Verdict, Settles, Where, order, among}
-use Rattle.verdict.proofs.Verdict.{verdict-passed, verdict-skip}
+use Rattle.verdict.proofs.Verdict.{verdict-passed, verdict-skip, settles-yes, settles-no}
 use Rattle.division.specs.Division.{Divisor, dividendCheck, divisorCheck}
 use Rattle.division.specs.Within.{Stages, lentCheck, checks, Fit}
 
@@ -52,10 +52,10 @@ verdict-leave c (d ∷ cs) ds m p (inr a) = inr (a .0, verdict-leave c cs ds m p
 -- what a call hands back that was refused, and that was done
 module _ (cs : List Check) {D R : Type 0} (o : T (among cs order)) where
   pub settles-refused : {m n : ℕ} → Verdict cs m → (m ≡ 0 → ⊥) → n ≡ m → R → Settles cs n D R
-  settles-refused v f e r = record { ordered = o; verdict = rw e v; done = λ z. absurd (f (sym e ∙ z)); refused = λ g. r }
+  settles-refused v f e r = rw e (settles-no cs o f v r)
 
   pub settles-passed : {m : ℕ} → Verdict cs m → m ≡ 0 → D → Settles cs 0 D R
-  settles-passed v e d = record { ordered = o; verdict = rw e at v; done = λ z. d; refused = λ f. absurd (f refl) }
+  settles-passed v e d = settles-yes cs o (verdict-passed cs o v e) d
 
 -- where none fails, the loops can start, and the quotient has as many cells as the dividend
 pub checks-fit : (w : List ℕ) (g n m : ℕ) {r : ℕ} → Verdict (checks w g n) m → m ≡ 0 → Stages g r → Fit w g r × (n ≡ length w)

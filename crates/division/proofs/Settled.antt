@@ -7,7 +7,7 @@ use Rattle.poly.proofs.Cells.{poly-injective}
 use Rattle.poly.proofs.Division.{quotient-unique, remainder-unique}
 use Rattle.verdict.specs.Verdict.{Check, Settles}
 use Rattle.verdict.proofs.Verdict.{settled}
-use Rattle.division.specs.Division.{Quotient, Divides, LeavesLow, LeavesHigh}
+use Rattle.division.specs.Division.{Quotient, DividesCells, LeavesLow, LeavesHigh}
 use Rattle.division.specs.declared.Outcome.{Outcome}
 use Rattle.division.proofs.Growing.{quotient-remainder, high-remainder}
 
@@ -25,7 +25,7 @@ module _ (w : List ℕ) (g : ℕ) where
   quotient-same {p} {q} a b =
       poly-injective p q (a .long ∙ sym (b .long)) (a .cells) (b .cells) (quotient-unique (a .divided) (b .divided))
 
-  pub divide-settled : (q : List ℕ) {p p′ : List ℕ} {x y : Outcome} → Divides w g q p x → Divides w g q p′ y → (x ≡ y) × (p ≡ p′)
+  pub divide-settled : (q : List ℕ) {p p′ : List ℕ} {x y : Outcome} → DividesCells w g q p x → DividesCells w g q p′ y → (x ≡ y) × (p ≡ p′)
   divide-settled q a b = (
     settled a b (λ c z e s t. outcome-same e (remainder-unique (quotient-remainder s) (quotient-remainder t)))
         (λ e s t. outcome-same e (s .1 ∙ sym (t .1))),

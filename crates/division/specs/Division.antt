@@ -40,8 +40,8 @@ pub record HighSide (w : List ℕ) (g s : ℕ) : Type 0 where
   pub remainder : Remainder (poly w * 2 ^ r) g s
 
 -- What `divide` hands back, with the lent quotient before and after.
-abbrev pub Divides : List ℕ → ℕ → List ℕ → List ℕ → Outcome → Type 0
-Divides w g q q′ x =
+abbrev pub DividesCells : List ℕ → ℕ → List ℕ → List ℕ → Outcome → Type 0
+DividesCells w g q q′ x =
     Settles (dividendCheck w ∷ divisorCheck g ∷ quotientCheck w q ∷ cellsCheck w ∷ []) (x .number) (Quotient w g q′ (x .remainder))
     ((q′ ≡ q) × (x .remainder ≡ 0))
 

@@ -3,7 +3,7 @@ ghost use mathlib.Core.Path.{_≡_};
 ghost use lib.ListN.{length};
 ghost use Rattle.poly.specs.Shifts.{Ready};
 ghost use Rattle.verdict.specs.Verdict.{Verdict};
-ghost use Rattle.division.specs.Division.{Quotient, Divides, LeavesLow, LeavesHigh};
+ghost use Rattle.division.specs.Division.{Quotient, DividesCells, LeavesLow, LeavesHigh};
 ghost use Rattle.division.specs.Within.{Stages, checks, Fit, Side, shiftAt, Leaves};
 
 #[repr(C)]
@@ -95,7 +95,7 @@ fn refused(m: u64) -> Outcome
 
 // Quotient and remainder.
 pub fn divide(dividend: &[u8], divisor: u64, quotient: &mut [u8]) -> Outcome
-    ensures { λ x. ⌜ Divides (now (dividend .entry)) divisor (now (quotient .entry)) (now (quotient .exit)) x ⌝ }
+    ensures { λ x. ⌜ DividesCells (now (dividend .entry)) divisor (now (quotient .entry)) (now (quotient .exit)) x ⌝ }
 {
     let m = first_number(dividend, divisor, quotient.len());
     if m != 0 {

@@ -3,8 +3,23 @@ ghost use mathlib.Core.Path.{_≡_};
 ghost use Rattle.families.specs.Families.{lengthOf, generatorOf, pairsOf};
 
 const LENGTHS: [usize; 12] = [7, 7, 7, 15, 15, 15, 15, 23, 23, 31, 31, 63];
+
 const GENERATORS: [u64; 12] = [11, 13, 29, 465, 1335, 19, 53, 2787, 3189, 37, 1897, 67];
-const PAIRS: [bool; 12] = [false, false, true, true, true, false, true, true, true, false, true, false];
+
+const PAIRS: [bool; 12] = [
+    false,
+    false,
+    true,
+    true,
+    true,
+    false,
+    true,
+    true,
+    true,
+    false,
+    true,
+    false,
+];
 
 // The number of cells of a family, numbered from 1; 0 where there is none.
 pub fn length_of(family: u64) -> usize

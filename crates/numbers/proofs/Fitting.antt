@@ -1,15 +1,15 @@
 -- What fits k and n cells, by the digits that stand past them; what the functions on a code that passed its checks cite.
 -- Assumes nothing.
 use mathlib.Core.Path.{_≡_, refl, _∙_}
-use mathlib.Core.List.{List, [], _∷_, _++_}
-use Prim.Native.Nat.{ℕ, suc, _+_, _-_, _*_, _/_, _%_, _^_, _≤_, _<_}
+use mathlib.Core.List.{[], _∷_, _++_}
+use Prim.Native.Nat.{ℕ, _+_, _-_, _*_, _/_, _%_, _^_, _≤_, _<_}
 use native.Mathlib.Nat.{lt-of-lt-of-le, div-eq-of-lt, mul-one, mul-assoc, pow-suc}
 use native.Mathlib.Numerals.{add-one}
 use native.Mathlib.Omega.{arith}
 use lib.Pow.{pow-mono, shl-exact}
 use Rattle.poly.specs.Poly.{sum, times, Degree, Divided, Remainder}
 use Rattle.poly.proofs.Times.{times-comm}
-use Rattle.poly.proofs.Degree.{degree-pos, degree-unique, high-zero}
+use Rattle.poly.proofs.Degree.{degree-pos, high-zero}
 use Rattle.poly.proofs.Division.{remainder-of, remainder-double}
 use Rattle.poly.specs.Shifts.{Ready, low}
 use Rattle.poly.proofs.Shifting.{zero-ready}
@@ -18,7 +18,7 @@ use Rattle.verdict.proofs.Verdict.{passed-first, passed-last}
 use Rattle.codes.specs.Code.{codeChecks}
 use Rattle.codes.specs.Coding.{Systematic, Product}
 use Rattle.codes.specs.Calls.{MessageFits, messageCheck}
-use Rattle.codes.proofs.Checking.{Code, code-of, generator-degree, generator-r, generator-pos, generator-lt}
+use Rattle.codes.proofs.Checking.{Code, code-of, generator-degree, generator-r, generator-pos, generator-lt, message-room, message-length}
 use Rattle.codes.proofs.Coding.{product-word}
 
 module _ {n g r : ℕ} (code : Code n g) (w : Where (0 < g) (Degree g r) (r ≡ 0)) where
@@ -35,15 +35,13 @@ module _ {n g r : ℕ} (code : Code n g) (w : Where (0 < g) (Degree g r) (r ≡ 
   pub message-fits : (d : ℕ) → d / 2 ^ (n - r) ≡ 0 → MessageFits n g d
   message-fits d e = record {
     k = n - r;
-    long = record { r = r; degree = has; whole = omega (arith, code-room) };
+    long = message-room has (omega (arith, code-room)) refl;
     below = high-zero d (n - r) e;
   }
 
   message-below : {d : ℕ} → MessageFits n g d → d < 2 ^ (n - r)
   message-below f =
-      let same : f .long .r ≡ r = degree-unique (f .long .degree) has in
-      let size : f .k ≡ n - r = omega (arith, f .long .whole, same) in
-      rw size at (f .below)
+      rw (message-length has (f .long)) at (f .below)
 
   pub message-large : {d : ℕ} → (d / 2 ^ (n - r) ≡ 0 → ⊥) → MessageFits n g d → ⊥
   message-large f h = f (div-eq-of-lt (message-below h))

@@ -3,17 +3,16 @@
 use mathlib.Core.Path.{_≡_, refl, sym, ap, ap₂, _∙_}
 use mathlib.Core.List.{List, [], _∷_, _++_}
 use Prim.Native.Nat.{ℕ, zero, suc, _+_, _-_, _*_, _/_, _%_, _^_, _<_, suc-le-suc}
-use native.Mathlib.Nat.{zero-add, zero-mul, one-mul, pow-suc, mod-lt, le-of-suc-le-suc, not-suc-le-zero, zero-lt-suc, add-zero, mod-one, mod-eq-of-lt, suc-inj, suc-sub-suc}
-use native.Mathlib.Numerals.{one-add, sub-one}
+use native.Mathlib.Nat.{zero-add, zero-mul, pow-suc, mod-lt, zero-lt-suc, add-zero, mod-one}
+use native.Mathlib.Numerals.{one-add}
 use native.Mathlib.Omega.{arith}
 use lib.Arith.{digits-lt, digits-mod}
 use lib.Dec.{lit<}
-use lib.ListN.{length, getD, take, drop, set, replicate, length-replicate, length-append, length-drop, length-set, take-append-drop}
-use lib.Pow.{pow-add, pow-lt, high, low, mod-pow-add}
+use lib.ListN.{length, getD, take, drop, replicate, length-replicate, length-append, length-drop, take-append-drop}
+use lib.Pow.{pow-add, high, mod-pow-add}
 use lib.Seq.{take-suc, getD-drop, ext-getD}
-use Rattle.poly.specs.Poly.{sum, coefficient}
+use Rattle.poly.specs.Poly.{coefficient}
 use Rattle.poly.specs.Cells.{Cells, poly, cells}
-use Rattle.poly.proofs.Sum.{sum-lt, sum-block, sum-low, sum-high}
 
 -- ---- cells
 
@@ -67,15 +66,9 @@ poly-lt (c ∷ w) h = rw (pow-suc 2 (length w)) (omega (arith, digits-lt {m = 2}
 pub poly-high : (v w : List ℕ) → Cells w → poly (v ++ w) / 2 ^ length w ≡ poly v
 poly-high v w h = rw poly-append (high (poly v) (length w) (poly-lt w h))
 
-pub poly-low : (v w : List ℕ) → Cells w → poly (v ++ w) % 2 ^ length w ≡ poly w
-poly-low v w h = rw poly-append (low (poly v) (length w) (poly-lt w h))
-
 -- the first k cells, and those after them
 pub poly-take : (k : ℕ) (w : List ℕ) → Cells w → poly (take k w) ≡ poly w / 2 ^ (length w - k)
 poly-take k w h = sym (rw (length-drop, take-append-drop) at (poly-high (take k w) (drop k w) (cells-drop k w h)))
-
-pub poly-drop : (k : ℕ) (w : List ℕ) → Cells w → poly (drop k w) ≡ poly w % 2 ^ (length w - k)
-poly-drop k w h = sym (rw (length-drop, take-append-drop) at (poly-low (take k w) (drop k w) (cells-drop k w h)))
 
 -- cell i is the coefficient of x^(n-1-i)
 pub poly-cell : (w : List ℕ) (i : ℕ) → Cells w → i < length w → getD w i 0 ≡ coefficient (poly w) (length w - suc i)
@@ -117,21 +110,4 @@ poly-injective v w l h k e =
     ext-getD 0 v w l λ i b.
     poly-cell v i h b ∙ ap₂ (λ (p n : ℕ). coefficient p (n - suc i)) e l ∙ sym (poly-cell w i k (rw l at b))
 
--- the cells of a word's polynomial are the word
-pub cells-poly : (w : List ℕ) → Cells w → cells (length w) (poly w) ≡ w
-cells-poly w h =
-    poly-injective (cells (length w) (poly w)) w (length-cells (length w) (poly w)) (cells-cells (length w) (poly w)) h
-    (poly-cells (length w) (poly w) ∙ mod-eq-of-lt (poly-lt w h))
-
 -- ---- one cell changed
-
--- cell i changed adds x^(n-1-i)
-pub poly-flip : (w : List ℕ) (i : ℕ) → Cells w → i < length w → poly (set w i (sum (getD w i 0) 1)) ≡ sum (poly w) (2 ^ (length w - suc i))
-unfolding poly
-poly-flip [] i h l = absurd (not-suc-le-zero l)
-poly-flip (c ∷ w) zero h l = rw (sub-one (suc (length w))) (rw one-mul at (sym (sum-high (length w) c 1 (poly w) (poly-lt w (λ i. h (suc i))))))
-poly-flip (c ∷ w) (suc i) h l =
-    let t : Cells w = λ j. h (suc j) in
-    let k = length w - suc i in
-    rw (length-set w i (sum (getD w i 0) 1), suc-sub-suc (length w) (suc i), poly-flip w i t (le-of-suc-le-suc l))
-    (sym (sum-low (length w) c (poly w) (2 ^ k) (poly-lt w t) (pow-lt (omega arith))))

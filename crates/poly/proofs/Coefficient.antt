@@ -1,16 +1,16 @@
 -- The coefficients of a polynomial: of sums and shifts, and that they make the polynomial.
 -- Assumes nothing.
-use mathlib.Core.Path.{_≡_, ap, _∙_}
+use mathlib.Core.Path.{_≡_, sym, ap, _∙_}
 use mathlib.Core.Logic.{_⊎_, inl, inr}
 use Prim.Native.Nat.{ℕ, suc, _+_, _-_, _*_, _/_, _%_, _^_, _≤_, _<_}
-use native.Mathlib.Decide.{decLt}
-use native.Mathlib.Nat.{zero-mul, mul-assoc, one-mul, zero-div, div-one, div-add-mod', div-eq-of-lt, eq-zero-or-pos, lt-of-lt-of-le, mod-lt}
+use native.Mathlib.Decide.{decLt, ℕ-discrete}
+use native.Mathlib.Nat.{zero-mul, mul-assoc, one-mul, zero-div, div-one, div-add-mod', div-eq-of-lt, eq-zero-or-pos, lt-of-lt-of-le, le-refl, mod-lt}
 use native.Mathlib.Numerals.{one-add, add-one}
 use native.Mathlib.Omega.{arith}
 use lib.Arith.{digits-div, digits-mod}
 use lib.Bits.{shifted-even}
 use lib.Dec.{lit<}
-use lib.Pow.{pow-add, pow-mono, shr-shr, shl-shr}
+use lib.Pow.{pow-add, pow-lt, pow-mono, shr-shr, shl-shr}
 use Rattle.poly.specs.Poly.{sum, coefficient}
 use Rattle.poly.specs.Shifts.{degree}
 use Rattle.poly.proofs.Sum.{sum-div, sum-mod, sum-self, sum-zero-eq, on-digit}
@@ -74,3 +74,29 @@ coefficients-same p q h =
     sum-zero-eq
     (coefficients-none (sum p q) λ i.
     coefficient-sum p q i ∙ ap (λ (x : ℕ). sum x (coefficient q i)) (h i) ∙ sum-self (coefficient q i))
+
+-- ---- the places of x^j, and of x^j + x^k
+
+-- x^j has no other place
+pub power-other : (j i : ℕ) → (i ≡ j → ⊥) → coefficient (2 ^ j) i ≡ 0
+power-other j i ne = go (lt-or-le i j)
+  where
+    go : (i < j) ⊎ (j ≤ i) → coefficient (2 ^ j) i ≡ 0
+    go (inl l) = rw (one-mul (2 ^ j)) at (coefficient-under 1 l)
+    go (inr l) = coefficient-past (2 ^ j) (suc j) i (pow-lt (le-refl (suc j))) (omega (arith, ne))
+
+-- a place of x^j
+pub power-place : (j i : ℕ) → coefficient (2 ^ j) i ≡ 1 → i ≡ j
+power-place j i h = go (ℕ-discrete i j)
+  where
+    go : Dec (i ≡ j) → i ≡ j
+    go (yes e) = e
+    go (no f) = let n : ⊥ = omega (arith, power-other j i f) in absurd n
+
+-- a place of x^j + x^k
+pub pair-place : (j k i : ℕ) → coefficient (sum (2 ^ j) (2 ^ k)) i ≡ 1 → (i ≡ j) ⊎ (i ≡ k)
+pair-place j k i h = go (ℕ-discrete i j)
+  where
+    go : Dec (i ≡ j) → (i ≡ j) ⊎ (i ≡ k)
+    go (yes e) = inl e
+    go (no f) = inr (power-place k i (sym (ap (λ (x : ℕ). sum x (coefficient (2 ^ k) i)) (power-other j i f)) ∙ sym (coefficient-sum (2 ^ j) (2 ^ k) i) ∙ h))

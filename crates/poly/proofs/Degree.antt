@@ -48,10 +48,6 @@ degree-pos {d = d} h = lt-of-lt-of-le (pow-pos d) (h .least)
 pub degree-unique : {p d e : ℕ} → Degree p d → Degree p e → d ≡ e
 degree-unique {p} {d} {e} h k = omega (arith, power-lt p d (suc e) (h .least) (k .below), power-lt p e (suc d) (k .least) (h .below))
 
--- terms of lower degree change no degree
-pub degree-sum : {p d s : ℕ} → Degree p d → s < 2 ^ d → Degree (sum p s) d
-degree-sum {p} {d} {s} h l = top-degree (sum p s) d (rw (sum-div p s d, degree-top h, div-eq-of-lt l))
-
 -- the degree of a product
 pub degree-times : {p q d e : ℕ} → Degree p d → Degree q e → Degree (times p q) (d + e)
 degree-times {p} {q} {d} {e} h k =
@@ -88,18 +84,6 @@ degree-of = bin-ind (λ (p : ℕ). 0 < p → Degree p (degree p)) (λ h. absurd 
     go : (p : ℕ) → 0 < p → (0 < p / 2 → Degree (p / 2) (degree (p / 2))) → (p / 2 ≡ 0) ⊎ (0 < p / 2) → Degree p (degree p)
     go p h ih (inl e) = rw (degree-one p h e) (omega arith)
     go p h ih (inr k) = let t = ih k in rw degree-half (omega arith)
-
--- no divisors of zero
-pub times-pos : {p q : ℕ} → 0 < p → 0 < q → 0 < times p q
-times-pos {p} {q} h k = lt-of-lt-of-le (pow-pos (degree p + degree q)) (degree-times (degree-of p h) (degree-of q k) .least)
-
-pub times-none : (p q : ℕ) → times p q ≡ 0 → (p ≡ 0) ⊎ (q ≡ 0)
-times-none p q e = go (eq-zero-or-pos p) (eq-zero-or-pos q)
-  where
-    go : (p ≡ 0) ⊎ (0 < p) → (q ≡ 0) ⊎ (0 < q) → (p ≡ 0) ⊎ (q ≡ 0)
-    go (inl a) k = inl a
-    go (inr h) (inl b) = inr b
-    go (inr h) (inr k) = let n : ⊥ = omega (arith, times-pos h k) in absurd n
 
 -- the degree by the leading zeros of a number of k digits, of which not all are zeros: at 64 digits it is `63 - leadingZeros 64 p`
 pub leading-lt : (k p : ℕ) → 0 < p → p < 2 ^ k → leadingZeros k p < k

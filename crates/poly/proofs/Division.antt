@@ -3,11 +3,11 @@
 use mathlib.Core.Path.{_≡_, sym, ap, ap₂, _∙_}
 use mathlib.Core.Logic.{_⊎_, inl, inr}
 use Prim.Native.Nat.{ℕ, suc, _+_, _*_, _/_, _%_, _^_, _<_}
-use native.Mathlib.Nat.{add-zero, zero-mul, one-mul, zero-div, le-of-suc-le-suc, lt-of-lt-of-le, eq-zero-or-pos, div-lt-iff-lt-mul, div-add-mod', div-eq-of-lt, mod-lt, mul-right-comm}
+use native.Mathlib.Nat.{add-zero, zero-mul, one-mul, zero-div, eq-zero-or-pos, div-lt-iff-lt-mul, div-add-mod', mod-lt, mul-right-comm}
 use native.Mathlib.Omega.{arith}
 use lib.Arith.{bin-ind}
 use lib.Dec.{lit<}
-use lib.Pow.{pow-pos, pow-mono}
+use lib.Pow.{pow-pos}
 use Rattle.poly.specs.Poly.{sum, times, Degree, Lower, Divided, Remainder, Divides}
 use Rattle.poly.specs.Shifts.{degree, reduce, low, high, bringDown, divide}
 use Rattle.poly.proofs.Sum.{sum-zero, sum-self, sum-comm, sum-back, sum-cancel, sum-zero-eq, sum-assoc, sum-double, sum-digit, sum-shift, sum-lt, sum-div, sum-laws, on-digit}
@@ -133,13 +133,6 @@ pub reduce-one : (d g t : ℕ) → t / 2 ^ d ≡ 1 → reduce d g t ≡ sum t g
 unfolding reduce
 reduce-one d g t e = rw (e, one-mul)
 
--- `reduce` by cases: t stays where it is short of degree d, and loses g where it has it
-pub reduce-short : (d g : ℕ) {t : ℕ} → t < 2 ^ d → reduce d g t ≡ t
-reduce-short d g {t} l = reduce-zero d g t (div-eq-of-lt l)
-
-pub reduce-full : {d t : ℕ} (g : ℕ) → Degree t d → reduce d g t ≡ sum t g
-reduce-full {d} {t} g h = reduce-one d g t (degree-top h)
-
 -- t of degree at most d, less g where it has degree d, is of lower degree than g
 pub reduce-lt : {g d : ℕ} (t : ℕ) → Degree g d → t < 2 ^ suc d → reduce d g t < 2 ^ d
 unfolding reduce
@@ -207,13 +200,6 @@ divide-divided p {g} h =
 
 pub divide-remainder : (p : ℕ) {g : ℕ} → 0 < g → Remainder p g (divide p g .remainder)
 divide-remainder p {g} h = record { quotient = divide p g .quotient; divided = divide-divided p h }
-
--- so `divide` computes what any proof of division says
-pub divide-is-quotient : {p g q s : ℕ} → Divided p g q s → divide p g .quotient ≡ q
-divide-is-quotient {p} h = quotient-unique (divide-divided p (lower-pos (h .lower))) h
-
-pub divide-is-remainder : {p g s : ℕ} → Remainder p g s → divide p g .remainder ≡ s
-divide-is-remainder {p} h = remainder-unique (divide-remainder p (lower-pos (h .divided .lower))) h
 
 pub divide-multiple : (p : ℕ) {g : ℕ} → 0 < g → divide p g .remainder ≡ 0 → Divides g p
 divide-multiple p h e = divides-remainder (rw e at (divide-remainder p h))

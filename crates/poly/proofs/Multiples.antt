@@ -9,16 +9,12 @@ use lib.Dec.{lit<}
 use lib.Pow.{pow-pos, pow-mono}
 use Rattle.poly.specs.Poly.{sum, times, Degree, Remainder, Divides}
 use Rattle.poly.specs.Shifts.{degree}
-use Rattle.poly.proofs.Sum.{sum-comm, sum-self, sum-back, sum-zero-eq, sum-double, sum-digit, sum-shift, sum-shifted, sum-div, sum-mod, sum-laws, on-digit}
-use Rattle.poly.proofs.Times.{times-step, times-zero-left, times-sum, times-sum-left, times-double-left, times-shift-left, times-power, times-power-left, times-one, times-assoc}
+use Rattle.poly.proofs.Sum.{sum-comm, sum-self, sum-zero-eq, sum-shift, sum-shifted, sum-div, sum-mod, on-digit}
+use Rattle.poly.proofs.Times.{times-step, times-sum, times-sum-left, times-double-left, times-power, times-one, times-assoc}
 use Rattle.poly.proofs.Degree.{degree-times, degree-of, power-lt, high-zero}
 use Rattle.poly.proofs.Division.{lower, lower-lt, lower-zero, lower-multiple, divides-lower, remainder-lower, remainder-differ, remainder-same}
 
 -- ---- an ideal
-
--- 0 is a multiple
-pub divides-zero : {g : ℕ} → Divides g 0
-divides-zero {g} = record { factor = 0; product = sym (times-zero-left g) }
 
 -- a sum of multiples is one
 pub divides-sum : {g p q : ℕ} → Divides g p → Divides g q → Divides g (sum p q)
@@ -32,32 +28,7 @@ pub divides-times : {g p : ℕ} (r : ℕ) → Divides g p → Divides g (times r
 divides-times {g} r h =
     record { factor = times r (h .factor); product = ap (times r) (h .product) ∙ sym (times-assoc r (h .factor) g) }
 
--- and x^k times one
-pub divides-shift : {g p : ℕ} (k : ℕ) → Divides g p → Divides g (p * 2 ^ k)
-divides-shift {g} k h = record {
-  factor = h .factor * 2 ^ k;
-  product = ap (λ (x : ℕ). x * 2 ^ k) (h .product) ∙ sym (times-shift-left k (h .factor) g);
-}
-
--- multiples of multiples
-pub divides-trans : {g p r : ℕ} → Divides g p → Divides p r → Divides g r
-divides-trans h k = rw (k .product) (divides-times (k .factor) h)
-
--- a multiple more makes no difference
-pub divides-less : {g p : ℕ} (q : ℕ) → Divides g p → Divides g (sum p q) → Divides g q
-divides-less {g} {p} q h k = rw (sum-back p q) at (divides-sum h k)
-
 -- ---- only the remainder of a factor counts
-
--- of a product
-pub remainder-times : {p g s t : ℕ} (r : ℕ) → Remainder p g s → Remainder (times r s) g t → Remainder (times r p) g t
-remainder-times {p} r h k =
-    remainder-same (times r p) (rw times-sum at (divides-times r (remainder-differ (remainder-lower (h .divided .lower)) h))) k
-
--- of a shift
-pub remainder-shift : {p g s t : ℕ} (k : ℕ) → Remainder p g s → Remainder (s * 2 ^ k) g t → Remainder (p * 2 ^ k) g t
-remainder-shift {p} {s = s} {t = t} k h r =
-    rw (times-power-left k p) at (remainder-times {t = t} (2 ^ k) h (rw (times-power-left k s) r))
 
 -- ---- x is no divisor of zero among the remainders by an odd g
 
@@ -80,10 +51,6 @@ divides-half {g} p h m =
 pub divides-unshift : {g : ℕ} (k p : ℕ) → g % 2 ≡ 1 → Divides g (p * 2 ^ k) → Divides g p
 divides-unshift zero p h m = rw mul-one at m
 divides-unshift (suc k) p h m = divides-unshift k p h (divides-half (p * 2 ^ k) h (rw (pow-suc, ← (mul-assoc p (2 ^ k) 2)) at m))
-
--- no run of d digits, wherever it stands, is a multiple of an odd g of degree d
-pub divides-burst : {g d : ℕ} (k b : ℕ) → g % 2 ≡ 1 → Degree g d → b < 2 ^ d → Divides g (b * 2 ^ k) → b ≡ 0
-divides-burst k b o h l m = divides-lower (divides-unshift k b o m) (lower h l)
 
 -- ---- a multiple is known by its quotient, and by what stands above g's degree
 
@@ -126,19 +93,3 @@ remainder-round n p m h = remainder-same (p * 2 ^ n) (rw sum-comm (divides-round
 -- where shifted polynomials leave the same remainder by an odd g, so do the polynomials
 pub remainder-unshift : {g s : ℕ} (k p q : ℕ) → g % 2 ≡ 1 → Remainder (p * 2 ^ k) g s → Remainder (q * 2 ^ k) g s → Divides g (sum p q)
 remainder-unshift k p q h a b = divides-unshift k (sum p q) h (rw sum-shift at (remainder-differ a b))
-
--- the top digit of n + 1 goes round to the low end: once more x, and where that digit is set, x^(n+1) + 1
-turned : (n a b : ℕ) → b < 2 ^ n → a < 2 → sum ((a * 2 ^ n + b) * 2) (sum (a * 2 ^ suc n) a) ≡ b * 2 + a
-turned n a b hb ha =
-    rw (pow-suc, ← (mul-assoc a (2 ^ n) 2), ← (sum-shifted a n b hb), ← sum-double)
-    (simp sum-laws (sum-comm a (b * 2) ∙ sum-digit b a ha))
-
-pub divides-rotate : {g : ℕ} (n a b : ℕ) → Divides g (sum (2 ^ suc n) 1) → b < 2 ^ n → a < 2 → Divides g (a * 2 ^ n + b) → Divides g (b * 2 + a)
-divides-rotate n a b m hb ha h = rw (turned n a b hb ha) at (divides-sum (divides-shift 1 h) (divides-round (suc n) a m))
-
-pub divides-rotate-back : {g : ℕ} (n a b : ℕ) → g % 2 ≡ 1 → Divides g (sum (2 ^ suc n) 1) → b < 2 ^ n → a < 2
-    → Divides g (b * 2 + a) → Divides g (a * 2 ^ n + b)
-divides-rotate-back {g} n a b o m hb ha h =
-    let t = sum (a * 2 ^ suc n) a in
-    divides-half (a * 2 ^ n + b) o
-    (divides-less ((a * 2 ^ n + b) * 2) (divides-round (suc n) a m) (rw (sum-comm t, turned n a b hb ha) h))

@@ -4,17 +4,18 @@ use mathlib.Core.Path.{_≡_, refl, sym, ap, ap₂, _∙_}
 use mathlib.Core.List.{List, [], _∷_}
 use mathlib.Core.Logic.{_⊎_, inl, inr}
 use Prim.Native.Nat.{ℕ, zero, suc, _+_, _-_, _*_, _/_, _%_, _^_, _≤_, _<_}
-use native.Mathlib.Nat.{add-zero, mul-assoc, mul-comm, zero-div, pow-suc, div-one, mod-eq-of-lt, le-of-suc-le-suc, not-suc-le-zero}
+use native.Mathlib.Nat.{add-zero, mul-assoc, mul-comm, zero-div, pow-suc, div-one, mod-lt, mod-eq-of-lt, div-add-mod', le-of-suc-le-suc, not-suc-le-zero}
 use native.Mathlib.Numerals.{one-add}
 use native.Mathlib.Omega.{arith}
+use lib.Arith.{lt-one}
 use lib.Dec.{lit<}
-use lib.ListN.{length, getD, replicate, length-replicate, List·getD-eq-default}
+use lib.ListN.{length, getD, replicate, List·getD-eq-default}
 use lib.Pow.{pow-pos, shr-shr, shl-shr}
 use Rattle.poly.specs.Poly.{sum, coefficient, Degree}
 use Rattle.poly.specs.Cells.{Cells}
-use Rattle.poly.specs.Register.{held, shifted, top, lowShift, highShift}
+use Rattle.poly.specs.Register.{held, shifted, top, lowShift, highShift, added}
 use Rattle.poly.specs.Shifts.{reduce, low, high}
-use Rattle.poly.proofs.Sum.{sum-zero, sum-div, sum-double, sum-lt, on-digit}
+use Rattle.poly.proofs.Sum.{sum-zero, sum-div, sum-double, sum-lt, sum-block, on-digit}
 use Rattle.poly.proofs.Degree.{high-zero}
 use Rattle.poly.proofs.Division.{top-digit, reduce-lt}
 use Rattle.poly.proofs.Coefficient.{lt-or-le, coefficient-lt, coefficient-sum, coefficient-zero, coefficient-suc, coefficient-digit, coefficient-under, coefficient-past, coefficients-same, div-suc}
@@ -151,3 +152,23 @@ module _ {g : ℕ} (d : ℕ) (h : Degree g (suc d)) (c : ℕ) (k : c < 2) (s : L
 
     pub cells-high : Cells (highShift (suc d) g c s)
     cells-high = cells-of (highShift (suc d) g c s) (high (suc d) g (held s) c) high-at
+
+-- ---- p added to the register
+
+pub length-added : (p : ℕ) (s : List ℕ) → length (added p s) ≡ length s
+unfolding added
+length-added p [] = refl
+length-added p (c ∷ s) = ap suc (length-added (p / 2) s)
+
+pub cells-added : (p : ℕ) (s : List ℕ) → Cells s → Cells (added p s)
+unfolding added
+cells-added p [] h i = h i
+cells-added p (c ∷ s) h zero = sum-lt 1 c (p % 2) (h 0) (mod-lt p (lit< tt))
+cells-added p (c ∷ s) h (suc i) = cells-added (p / 2) s (λ j. h (suc j)) i
+
+pub held-added : (p : ℕ) (s : List ℕ) → Cells s → p < 2 ^ length s → held (added p s) ≡ sum (held s) p
+unfolding held added
+held-added p [] h l = rw (lt-one l)
+held-added p (c ∷ s) h l =
+    let half : p / 2 < 2 ^ length s = omega (arith, rw (pow-suc 2 (length s)) at l) in
+    rw (held-added (p / 2) s (λ i. h (suc i)) half, ← (sum-block 1 (held s) (p / 2) c (p % 2) (h 0) (mod-lt p (lit< tt))), div-add-mod' p 2)

@@ -1,6 +1,5 @@
 -- Division as it is computed on numbers: a register of r stages is a number below 2 ^ r, and long division goes by its shifts. The proofs show
 -- that these are the shifts of `Register`, and that they give quotient and remainder. Assumes nothing.
-use mathlib.Core.Path.{_≡_}
 use Prim.Native.Nat.{ℕ, suc, pred, _+_, _*_, _/_, _^_, _≤_, _<_}
 use Rattle.poly.specs.Poly.{sum, horner, Degree}
 

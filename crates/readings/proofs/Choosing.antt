@@ -22,7 +22,7 @@ use Rattle.codes.proofs.Checking.{Allowed, allowed-of, of-allowed}
 use Rattle.codes.proofs.Coding.{allowed-laws, first-unique}
 use Rattle.codes.proofs.Cutting.{first-number, first-passed}
 use Rattle.numbers.specs.declared.Decoding.{Decoding}
-use Rattle.readings.specs.Readings.{Agree, SecondWord, alone, fewer, FirstWord, only, enough, bothCheck, cellsCheck, agreeCheck, eitherCheck, wordsChecks, messageChecks, readingChecks, TakesFirst, TakesSecond, Picks}
+use Rattle.readings.specs.Readings.{Agree, SecondWord, alone, fewer, FirstWord, only, enough, bothCheck, cellsCheck, wordsChecks, messageChecks, readingChecks, TakesFirst, TakesSecond, Picks}
 use Rattle.readings.specs.Within.{Weighs, neither, onlySecond, onlyFirst, differ, Chosen}
 use Rattle.readings.specs.Within.{fewer as weighs-fewer, enough as weighs-enough}
 
@@ -98,13 +98,23 @@ module _ (n g rule : ℕ) (a b : List ℕ) where
   -- one of the two is
   first-chosen : Verdict (readingChecks n g rule a b) 0 → TakesFirst n g rule a b → Chosen n g rule a b 0 1
   first-chosen v t = record {
-    verdict = v; first = λ e. t; second = λ e. absurd (let f : ⊥ = omega (arith, e) in f); none = λ i j. absurd (i refl);
-    zero = λ e i. absurd (i refl); other = λ h. absurd (h refl) }
+    verdict = v;
+    first = λ e. t;
+    second = λ e. absurd (let f : ⊥ = omega (arith, e) in f);
+    none = λ i j. absurd (i refl);
+    zero = λ e i. absurd (i refl);
+    other = λ h. absurd (h refl);
+  }
 
   second-chosen : Verdict (readingChecks n g rule a b) 0 → TakesSecond n g rule a b → Chosen n g rule a b 0 2
   second-chosen v t = record {
-    verdict = v; first = λ e. absurd (let f : ⊥ = omega (arith, e) in f); second = λ e. t; none = λ i j. absurd (j refl);
-    zero = λ e i. refl; other = λ h. absurd (h refl) }
+    verdict = v;
+    first = λ e. absurd (let f : ⊥ = omega (arith, e) in f);
+    second = λ e. t;
+    none = λ i j. absurd (j refl);
+    zero = λ e i. refl;
+    other = λ h. absurd (h refl);
+  }
 
   -- a check 1 to 7 refused
   pub refused-chosen : {m : ℕ} → (m ≡ 0 → ⊥) → Verdict (wordsChecks n g rule a b) m → Chosen n g rule a b m 0

@@ -45,7 +45,8 @@ cellsCheck a b = record { number = 7; passes = Cells a × Cells b }
 abbrev pub agreeCheck : ℕ → ℕ → ℕ → ℕ → ℕ → Check
 agreeCheck n g rule a b = record {
   number = 10;
-  passes = (c d m m′ : ℕ) → Mends (Pattern n rule) n g a c → Mends (Pattern n rule) n g b d → First g m c → First g m′ d → m ≡ m′ }
+  passes = (c d m m′ : ℕ) → Mends (Pattern n rule) n g a c → Mends (Pattern n rule) n g b d → First g m c → First g m′ d → m ≡ m′;
+}
 
 -- 8 if neither is readable.
 abbrev pub eitherCheck : ℕ → ℕ → ℕ → ℕ → ℕ → Check

@@ -15,19 +15,13 @@ struct Choice {
 fn refused(m: u64) -> Choice
     ensures { λ c. ⌜ (c .number ≡ m) × (c .word ≡ 0) ⌝ }
 {
-    Choice {
-        number: m,
-        word: 0,
-    }
+    Choice { number: m, word: 0 }
 }
 
 fn taken(word: u64) -> Choice
     ensures { λ c. ⌜ (c .number ≡ 0) × (c .word ≡ word) ⌝ }
 {
-    Choice {
-        number: 0,
-        word,
-    }
+    Choice { number: 0, word }
 }
 
 // Two decodings weighed.

@@ -1,10 +1,10 @@
 -- From a call on numbers to the same call on lent cells: its refusals, the checks of the cells behind them, and what was done.
 -- Assumes nothing.
-use mathlib.Core.Path.{_≡_, refl, sym, ap, _∙_}
+use mathlib.Core.Path.{_≡_, refl, _∙_}
 use mathlib.Core.Bool.{Bool, true, false}
 use mathlib.Core.List.{List, [], _∷_, _++_}
 use mathlib.Core.Logic.{_⊎_, inl, inr}
-use Prim.Native.Nat.{ℕ, _+_, _-_, _*_, _/_, _%_, _^_, _≤_, _<_}
+use Prim.Native.Nat.{ℕ, _+_, _-_, _^_, _≤_, _<_}
 use native.Mathlib.Nat.{mod-eq-of-lt}
 use native.Mathlib.Omega.{arith}
 use lib.ListN.{length, length-append}
@@ -14,14 +14,14 @@ use Rattle.poly.specs.Cells.{Cells, poly, cells}
 use Rattle.poly.proofs.Degree.{degree-unique}
 use Rattle.poly.proofs.Cells.{poly-lt, poly-append, poly-cells, length-cells, cells-cells, cells-append}
 use Rattle.cells.specs.Lent.{cellsCheck}
-use Rattle.verdict.specs.Verdict.{Check, Verdict, Passed, Settles, Where}
-use Rattle.verdict.proofs.Verdict.{verdict-on, verdict-stop, passed-on, passed-first, verdict-passed, settles-yes, settles-no}
+use Rattle.verdict.specs.Verdict.{Check, Verdict, Passed, Where}
+use Rattle.verdict.proofs.Verdict.{verdict-on, verdict-stop, passed-on, verdict-passed, settles-yes, settles-no}
 use Rattle.codes.specs.Code.{codeChecks, MessageLength, CodeWord}
 use Rattle.codes.specs.Mending.{Pattern, Readable, ruleChecks}
-use Rattle.codes.specs.Coding.{Systematic, Product, First, Decoded}
+use Rattle.codes.specs.Coding.{Systematic, Decoded}
 use Rattle.codes.specs.Calls.{MessageFits, messageCheck, wordCheck, readableCheck, slicesCheck, Encodes, Decodes, EncodesCells, DecodesCells, Written}
-use Rattle.codes.proofs.Checking.{Code, Allowed, code-of, of-code, allowed-of, of-allowed, generator-degree, generator-r}
-use Rattle.codes.proofs.Coding.{systematic-first, systematic-word, product-word, first-fits, product-fits}
+use Rattle.codes.proofs.Checking.{Code, Allowed, code-of, of-code, allowed-of, of-allowed, generator-degree, generator-r, message-room, message-length}
+use Rattle.codes.proofs.Coding.{systematic-first, first-fits, product-fits}
 use Rattle.words.specs.Within.{says}
 use Rattle.codes.proofs.Cutting.{first-number, first-passed}
 
@@ -59,10 +59,10 @@ module _ {n g r : ℕ} (code : Code n g) (w : Where (0 < g) (Degree g r) (r ≡ 
   length-room = omega (arith, generator-r (code .generator) w, code .generator .room)
 
   pub length-right : {k : ℕ} → k ≡ n - r → MessageLength n g k
-  length-right e = record { r = r; degree = has; whole = omega (arith, e, length-room) }
+  length-right = message-room has length-room
 
   pub length-wrong : {k : ℕ} → (k ≡ n - r → ⊥) → MessageLength n g k → ⊥
-  length-wrong f l = f (omega (arith, l .whole, degree-unique (l .degree) has))
+  length-wrong f l = f (message-length has l)
 
 -- ---- encoders
 

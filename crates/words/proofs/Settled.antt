@@ -1,7 +1,7 @@
 -- Two results of one call are equal; and demand 2 on cells: from message to word by either rule, and from word back to the same message.
 -- Assumes nothing.
 use mathlib.Core.Path.{_≡_, _∙_}
-use mathlib.Core.List.{List, [], _∷_, _++_}
+use mathlib.Core.List.{List, [], _∷_}
 use Prim.Native.Nat.{ℕ}
 use lib.ListN.{length}
 use Rattle.poly.specs.Cells.{Cells, poly}
@@ -58,7 +58,7 @@ module _ {n g rule : ℕ} (a : Allowed n g rule) (message word : List ℕ) (k : 
     back {lent′} y =
         let last = slicesCheck n g lent word′ ∷ cellsCheck word′ ∷ readableCheck n g rule (poly word′) ∷ [] in
         let t = settles-done y (passed-on (ruleChecks n g rule) last (of-allowed a)
-            ((rw same k, w .long), (w .cells, ((c, rw (w .stands) (mends-self a h)), tt)))) in
+        ((rw same k, w .long), (w .cells, ((c, rw (w .stands) (mends-self a h)), tt)))) in
         let z = t .1 .2 in
         let s = decoded (t .1 .1) in
         (t .0, poly-injective lent′ message (z .long ∙ same) (z .cells) fine (z .stands ∙ s .0), s .1)

@@ -1,8 +1,7 @@
 -- The pattern of remainder 0 is the empty one; the single cells are the shifts of 1, and the pairs with the two ends those of 3.
-use mathlib.Core.Path.{_≡_, refl}
+use mathlib.Core.Path.{_≡_}
 use native.Mathlib.Nat.{one-mul}
 use native.Mathlib.Omega.{arith}
-use borrow.Author.Needs.{needs}
 use Rattle.poly.proofs.Division.{remainder-zero}
 use Prim.Native.Nat.{_-_}
 use Rattle.codes.specs.Mending.{none, single, pair, ends}

@@ -1,10 +1,9 @@
 -- The pattern with the word's remainder, if there is one, makes the word a code word.
-use mathlib.Core.Path.{_≡_}
 use native.Mathlib.Nat.{div-eq-of-lt}
 use native.Mathlib.Omega.{arith}
 use borrow.Author.Needs.{needs}
 use borrow.Author.Tests.{not-true, not-false}
-use lib.Count.{ones, ones-le}
+use lib.Count.{ones-le}
 use Rattle.poly.proofs.Degree.{high-zero}
 use Rattle.codes.proofs.Checking.{Allowed, allowed-zero, code-given}
 use Rattle.numbers.proofs.Answering.{code-refused, word-refused, unreadable, readable}

@@ -1,13 +1,10 @@
 -- Each shift with no input multiplies by x what the remainder is of.
-use mathlib.Core.Path.{_≡_, sym}
 use Prim.Native.Nat.{ℕ, _*_, _-_, _^_, _≤_, _<_}
 use native.Mathlib.Omega.{arith}
 use borrow.Author.Count.{below-none, below-more}
 use borrow.Author.Needs.{needs}
 use Rattle.poly.specs.Poly.{Remainder}
 use Rattle.poly.proofs.Division.{remainder-unique}
-use Rattle.poly.proofs.Shifting.{zero-ready}
-use Rattle.numbers.specs.Finding.{FirstShift}
 use Rattle.numbers.proofs.Fitting.{shift-none, shift-next}
 use Rattle.numbers.proofs.first_shift.Statement.{statement}
 use Rattle.numbers.proofs.first_shift.Tie as tie

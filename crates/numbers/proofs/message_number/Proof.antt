@@ -1,5 +1,5 @@
 -- A message has at most k = n - r cells exactly if nothing stands from digit k on.
-use mathlib.Core.List.{List, [], _∷_}
+use mathlib.Core.List.{[], _∷_}
 use mathlib.Core.Logic.{inl, inr}
 use mathlib.Core.Path.{refl}
 use native.Mathlib.Omega.{arith}

@@ -1,5 +1,5 @@
 -- A word has at most n cells exactly if nothing stands from digit n on.
-use mathlib.Core.List.{List, [], _∷_, _++_}
+use mathlib.Core.List.{[], _∷_, _++_}
 use mathlib.Core.Logic.{inl}
 use mathlib.Core.Path.{refl}
 use native.Mathlib.Nat.{div-eq-of-lt}

@@ -2,7 +2,7 @@
 use native.Mathlib.Omega.{arith}
 use borrow.Author.Needs.{needs}
 use borrow.Author.Tests.{not-true, not-false}
-use mathlib.Core.Path.{refl, ap, _∙_}
+use mathlib.Core.Path.{refl}
 use Rattle.verdict.proofs.Verdict.{where-holds, where-fails}
 use Rattle.poly.specs.Shifts.{Ready}
 use Rattle.poly.proofs.Shifting.{ready-small, high-fits, high-shl}

@@ -1,9 +1,9 @@
 -- The degrees of the factors add up to that of the product, so they tell whether it has at most 64 digits.
-use mathlib.Core.Path.{refl, sym, ap, _∙_}
+use mathlib.Core.Path.{refl}
 use native.Mathlib.Omega.{arith}
 use borrow.Author.Needs.{needs}
 use Rattle.verdict.proofs.Verdict.{where-holds, where-fails}
-use Rattle.poly.specs.Poly.{times, Degree}
+use Rattle.poly.specs.Poly.{Degree}
 use Rattle.poly.proofs.Times.{times-zero-left, times-zero}
 use Rattle.poly.proofs.Degree.{power-lt}
 use Rattle.poly.proofs.Products.{product-large, product-small}

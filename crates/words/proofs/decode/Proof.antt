@@ -1,5 +1,4 @@
 -- The message on numbers, written as k cells.
-use mathlib.Core.Path.{_≡_}
 use Prim.Native.Nat.{_<_}
 use borrow.Author.Needs.{needs}
 use lib.ListN.{length}

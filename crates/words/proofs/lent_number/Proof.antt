@@ -1,7 +1,6 @@
 -- Lengths first, then the cells.
 use mathlib.Core.Logic.{inl, inr}
 use mathlib.Core.Path.{refl}
-use native.Mathlib.Omega.{arith}
 use borrow.Author.Needs.{needs}
 use Rattle.cells.proofs.Lent.{first-bad-cells, first-bad-none}
 use Rattle.words.proofs.Lending.{length-room, length-right, length-wrong}
@@ -26,14 +25,18 @@ first-bad-requires c κs = search needs
 returns-3 : tie.Need-returns-3
 returns-3 c =
     let d = c .before .before .before .before in
-    inr ((length-right (d .before .before .pre) (d .degree-of .ensures) (c .before .before .before .if1 .left), c .before .before .if2 .left),
-    inl (first-bad-none (c .before .first-bad .ensures) (c .if3 .taken), refl))
+    inr (
+      (length-right (d .before .before .pre) (d .degree-of .ensures) (c .before .before .before .if1 .left), c .before .before .if2 .left),
+      inl (first-bad-none (c .before .first-bad .ensures) (c .if3 .taken), refl),
+    )
 
 returns-4 : tie.Need-returns-4
 returns-4 c =
     let d = c .before .before .before .before in
-    inr ((length-right (d .before .before .pre) (d .degree-of .ensures) (c .before .before .before .if1 .left), c .before .before .if2 .left),
-    inr (first-bad-cells (c .before .first-bad .ensures) (c .if3 .left), refl))
+    inr (
+      (length-right (d .before .before .pre) (d .degree-of .ensures) (c .before .before .before .if1 .left), c .before .before .if2 .left),
+      inr (first-bad-cells (c .before .first-bad .ensures) (c .if3 .left), refl),
+    )
 
 pub lent-number-spec : {M : Type 1} → statement M
 lent-number-spec =
