@@ -35,7 +35,7 @@ extern "C" {
 #endif
 
 typedef struct { uint64_t number, remainder; } plate_outcome;
-typedef struct { uint64_t number, mended; } plate_answer_t;
+typedef struct { uint64_t number, mended; } plate_reading;
 typedef struct { uint64_t number, value; } plate_value;
 typedef struct { uint64_t number, message, mended; } plate_decoding;
 
@@ -63,8 +63,8 @@ plate_outcome plate_remainder(size_t n, uint64_t g, const uint8_t *word, size_t 
 
 /* Decoders: the message of the one code word that differs from the word in a pattern of the rule, written into k lent cells, and the number of
    cells in that pattern. Checks: 1 2 3 4 5 6 7 8. */
-plate_answer_t plate_decode_systematic(size_t n, uint64_t g, uint64_t rule, const uint8_t *word, size_t word_length, uint8_t *message, size_t message_length);
-plate_answer_t plate_decode_product(size_t n, uint64_t g, uint64_t rule, const uint8_t *word, size_t word_length, uint8_t *message, size_t message_length);
+plate_reading plate_decode_systematic(size_t n, uint64_t g, uint64_t rule, const uint8_t *word, size_t word_length, uint8_t *message, size_t message_length);
+plate_reading plate_decode_product(size_t n, uint64_t g, uint64_t rule, const uint8_t *word, size_t word_length, uint8_t *message, size_t message_length);
 
 /* The same calls with words and messages as numbers, last cell lowest; there is no 7. */
 plate_value plate_encode_systematic_number(size_t n, uint64_t g, uint64_t message);
@@ -72,6 +72,31 @@ plate_value plate_encode_product_number(size_t n, uint64_t g, uint64_t message);
 plate_value plate_remainder_number(size_t n, uint64_t g, uint64_t word);
 plate_decoding plate_decode_systematic_number(size_t n, uint64_t g, uint64_t rule, uint64_t word);
 plate_decoding plate_decode_product_number(size_t n, uint64_t g, uint64_t rule, uint64_t word);
+
+/* The clocked reader, a value that a start makes and each clock takes and gives back. It is started with n, g and a rule; clocks 1 to n take the
+   word's cells, first cell first, and give out 0; clocks n+1 to 2n take 0 and give out the mended cells; after 2n clocks the answer stands.
+   Stage i is for x^i, and the cells are stored first cell first. */
+typedef struct {
+    size_t n;
+    uint64_t g, rule;
+    size_t clocks;
+    uint64_t mended;
+    uint8_t stages[32], cells[63];
+} plate_reader;
+typedef struct { uint64_t number; plate_reader reader; } plate_started;
+typedef struct { uint64_t number; uint8_t cell; plate_reader reader; } plate_clocked;
+
+/* Checks: 1 2 3 4 5. A refused start gives a reader with every number zero. */
+plate_started plate_start(size_t n, uint64_t g, uint64_t rule);
+
+/* Checks: 11 7. A refused clock gives the reader back as it was. */
+plate_clocked plate_clock(plate_reader reader, uint8_t cell);
+
+/* Writes the message into k lent cells. Checks: 11 6 8. */
+plate_reading plate_answer(plate_reader reader, uint8_t *message, size_t message_length);
+
+/* A whole word through the clocked reader: as plate_decode_systematic. */
+plate_reading plate_read(size_t n, uint64_t g, uint64_t rule, const uint8_t *word, size_t word_length, uint8_t *message, size_t message_length);
 
 /* The better of two words read from one plate: 1 for the first, 2 for the second, 0 for none; and the number that goes with it, which is 0
    exactly if it is one of them. Checks: 1 2 3 4 5 6 7 10 8. */

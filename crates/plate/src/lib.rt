@@ -3,11 +3,12 @@
 ghost use mathlib.Core.Path.{_≡_};
 ghost use mathlib.Core.Logic.{_⊎_};
 ghost use Rattle.verdict.specs.Verdict.{Verdict, Settles};
-ghost use Rattle.division.specs.Division.{Divides, LeavesLow, LeavesHigh};
+ghost use Rattle.division.specs.Division.{DividesCells, LeavesLow, LeavesHigh};
 ghost use Rattle.codes.specs.Code.{codeChecks};
 ghost use Rattle.codes.specs.Mending.{ruleChecks};
 ghost use Rattle.codes.specs.Coding.{Systematic, Product, First};
 ghost use Rattle.codes.specs.Calls.{Encodes, Leaves, Decodes, EncodesCells, LeavesCells, DecodesCells};
+ghost use Rattle.reader.specs.Reader.{Starts, Clocks, Answers};
 ghost use Rattle.readings.specs.Readings.{readingChecks, TakesFirst, TakesSecond, Picks};
 ghost use Rattle.families.specs.Families.{lengthOf, generatorOf};
 
@@ -29,8 +30,12 @@ pub extern "C" fn plate_check_rule(n: usize, g: u64, rule: u64) -> u64
 
 // Quotient and remainder of lent cells.
 #[no_mangle]
-pub extern "C" fn plate_divide(dividend: &[u8], divisor: u64, quotient: &mut [u8]) -> division::Outcome
-    ensures { λ x. ⌜ Divides (now (dividend .entry)) divisor (now (quotient .entry)) (now (quotient .exit)) x ⌝ }
+pub extern "C" fn plate_divide(
+    dividend: &[u8],
+    divisor: u64,
+    quotient: &mut [u8],
+) -> division::Outcome
+    ensures { λ x. ⌜ DividesCells (now (dividend .entry)) divisor (now (quotient .entry)) (now (quotient .exit)) x ⌝ }
 {
     division::divide(dividend, divisor, quotient)
 }
@@ -77,7 +82,13 @@ pub extern "C" fn plate_remainder(n: usize, g: u64, word: &[u8]) -> words::Outco
 
 // The message of a word by the systematic rule, on lent cells.
 #[no_mangle]
-pub extern "C" fn plate_decode_systematic(n: usize, g: u64, rule: u64, word: &[u8], message: &mut [u8]) -> words::Answer
+pub extern "C" fn plate_decode_systematic(
+    n: usize,
+    g: u64,
+    rule: u64,
+    word: &[u8],
+    message: &mut [u8],
+) -> words::Answer
     ensures { λ x. ⌜ DecodesCells First n g rule (now (word .entry)) (now (message .entry)) (now (message .exit)) (x .number) (x .mended) ⌝ }
 {
     words::decode_systematic(n, g, rule, word, message)
@@ -85,7 +96,13 @@ pub extern "C" fn plate_decode_systematic(n: usize, g: u64, rule: u64, word: &[u
 
 // The message of a word by the product rule, on lent cells.
 #[no_mangle]
-pub extern "C" fn plate_decode_product(n: usize, g: u64, rule: u64, word: &[u8], message: &mut [u8]) -> words::Answer
+pub extern "C" fn plate_decode_product(
+    n: usize,
+    g: u64,
+    rule: u64,
+    word: &[u8],
+    message: &mut [u8],
+) -> words::Answer
     ensures { λ x. ⌜ DecodesCells Product n g rule (now (word .entry)) (now (message .entry)) (now (message .exit)) (x .number) (x .mended) ⌝ }
 {
     words::decode_product(n, g, rule, word, message)
@@ -117,7 +134,12 @@ pub extern "C" fn plate_remainder_number(n: usize, g: u64, word: u64) -> numbers
 
 // The message of a word by the systematic rule, on numbers.
 #[no_mangle]
-pub extern "C" fn plate_decode_systematic_number(n: usize, g: u64, rule: u64, word: u64) -> numbers::Decoding
+pub extern "C" fn plate_decode_systematic_number(
+    n: usize,
+    g: u64,
+    rule: u64,
+    word: u64,
+) -> numbers::Decoding
     ensures { λ x. ⌜ Decodes First n g rule word (x .number) (x .message) (x .mended) ⌝ }
 {
     numbers::decode_systematic(n, g, rule, word)
@@ -125,10 +147,53 @@ pub extern "C" fn plate_decode_systematic_number(n: usize, g: u64, rule: u64, wo
 
 // The message of a word by the product rule, on numbers.
 #[no_mangle]
-pub extern "C" fn plate_decode_product_number(n: usize, g: u64, rule: u64, word: u64) -> numbers::Decoding
+pub extern "C" fn plate_decode_product_number(
+    n: usize,
+    g: u64,
+    rule: u64,
+    word: u64,
+) -> numbers::Decoding
     ensures { λ x. ⌜ Decodes Product n g rule word (x .number) (x .message) (x .mended) ⌝ }
 {
     numbers::decode_product(n, g, rule, word)
+}
+
+// A reader at its first clock.
+#[no_mangle]
+pub extern "C" fn plate_start(n: usize, g: u64, rule: u64) -> reader::Started
+    ensures { λ x. ⌜ Starts n g rule x ⌝ }
+{
+    reader::Reader::start(n, g, rule)
+}
+
+// One clock: a cell goes in, a cell comes out, the next reader comes back.
+#[no_mangle]
+pub extern "C" fn plate_clock(held: reader::Reader, cell: u8) -> reader::Clocked
+    ensures { λ x. ⌜ Clocks held cell x ⌝ }
+{
+    held.clock(cell)
+}
+
+// The answer after 2n clocks.
+#[no_mangle]
+pub extern "C" fn plate_answer(held: reader::Reader, message: &mut [u8]) -> reader::Answer
+    ensures { λ x. ⌜ Answers held (now (message .entry)) (now (message .exit)) (x .number) (x .mended) ⌝ }
+{
+    held.answer(message)
+}
+
+// Start, 2n clocks and the answer in one call.
+#[no_mangle]
+pub extern "C" fn plate_read(
+    n: usize,
+    g: u64,
+    rule: u64,
+    word: &[u8],
+    message: &mut [u8],
+) -> reader::Answer
+    ensures { λ x. ⌜ DecodesCells First n g rule (now (word .entry)) (now (message .entry)) (now (message .exit)) (x .number) (x .mended) ⌝ }
+{
+    reader::read(n, g, rule, word, message)
 }
 
 // The better of two readings: 1 for the first word, 2 for the second, 0 for none.
@@ -141,7 +206,13 @@ pub extern "C" fn plate_better_word(n: usize, g: u64, rule: u64, first: &[u8], s
 
 // The number that goes with it.
 #[no_mangle]
-pub extern "C" fn plate_better_number(n: usize, g: u64, rule: u64, first: &[u8], second: &[u8]) -> u64
+pub extern "C" fn plate_better_number(
+    n: usize,
+    g: u64,
+    rule: u64,
+    first: &[u8],
+    second: &[u8],
+) -> u64
     ensures { λ m. ⌜ Settles (readingChecks n g rule (now (first .entry)) (now (second .entry))) m
         (TakesFirst n g rule (now (first .entry)) (now (second .entry)) ⊎ TakesSecond n g rule (now (first .entry)) (now (second .entry)))
         ((TakesFirst n g rule (now (first .entry)) (now (second .entry)) → ⊥) × (TakesSecond n g rule (now (first .entry)) (now (second .entry)) → ⊥)) ⌝ }
