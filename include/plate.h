@@ -6,8 +6,8 @@
  * x^n + 1. A word has n cells and a message k = n - r. The mending rules: 0 mends nothing, 1 a single cell, 2 also two neighbouring cells, the first
  * and the last cell being neighbours.
  *
- * Every call takes any numbers and any cells and never relies on its caller having looked first; a pointer must be to as many bytes as are named
- * after it. What can't be used is refused by number:
+ * Every call takes any numbers and any cells and never relies on its caller having looked first. A pointer must be to as many bytes as are named
+ * after it, and cells that a call writes must not overlap others lent to it. What can't be used is refused by number:
  *
  *    0  done
  *    1  n, or a dividend's length (0 to 4,096 cells), outside its range
@@ -21,8 +21,8 @@
  *   10  both readings are readable and their messages differ
  *   11  reader not in form; a clock after 2n clocks; an answer asked for before 2n
  *
- * The first one met in the order 11, 1, 2, 3, 4, 5, 6, 7, 10, 8 is given. Beside a number other than 0 every other result is 0 and lent cells hold what
- * they held. The promise of each call, in full, is the contract of its function in crates/plate/src/lib.rt.
+ * The first one met in the order 11, 1, 2, 3, 4, 5, 6, 7, 10, 8 is given. Beside a number other than 0 every other result is 0, lent cells hold what
+ * they held, and a refused clock gives the reader back. The promise of each call, in full, is the contract of its function in crates/plate/src/lib.rt.
  */
 #ifndef PLATE_H
 #define PLATE_H
@@ -43,9 +43,10 @@ typedef struct { uint64_t number, message, mended; } plate_decoding;
 uint64_t plate_check_code(size_t n, uint64_t g);
 uint64_t plate_check_rule(size_t n, uint64_t g, uint64_t rule);
 
-/* The plate families, numbered from 1 to 12; 0 for any other number. */
+/* The plate families, numbered from 1 to 12; 0 for any other number. All carry the rules 0 and 1; `pairs` is 1 for those that carry rule 2 too. */
 size_t plate_family_length(uint64_t family);
 uint64_t plate_family_generator(uint64_t family);
+uint8_t plate_family_pairs(uint64_t family);
 
 /* Division of a dividend of 0 to 4,096 cells. The quotient is lent as many cells as the dividend. Checks: 1 2 6 7. */
 plate_outcome plate_divide(const uint8_t *dividend, size_t dividend_length, uint64_t divisor, uint8_t *quotient, size_t quotient_length);
@@ -74,7 +75,7 @@ plate_decoding plate_decode_systematic_number(size_t n, uint64_t g, uint64_t rul
 plate_decoding plate_decode_product_number(size_t n, uint64_t g, uint64_t rule, uint64_t word);
 
 /* The clocked reader, a value that a start makes and each clock takes and gives back. It is started with n, g and a rule; clocks 1 to n take the
-   word's cells, first cell first, and give out 0; clocks n+1 to 2n take 0 and give out the mended cells; after 2n clocks the answer stands.
+   word's cells, first cell first, and give out 0; clocks n+1 to 2n take 0 and give out the stored cells, mended where the word is readable; after 2n clocks the answer stands.
    Stage i is for x^i, and the cells are stored first cell first. */
 typedef struct {
     size_t n;

@@ -4,6 +4,9 @@ import plates
 
 # What each letter calls, and its fields: a number (n), cells (c) or a reader (r).
 CALLS = {
+    "K": ("check_code", "nn"),
+    "k": ("check_rule", "nnn"),
+    "F": ("family", "n"),
     "D": ("divide", "ncc"),
     "L": ("low_side", "nc"),
     "H": ("high_side", "nc"),

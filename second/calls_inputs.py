@@ -66,7 +66,9 @@ def faults_on_a_code(draw, n, g, rule):
         yield from pairwise(letter, lengths, generators, rules, words, lent_options(draw, k))
     for letter in "mq":
         yield from pairwise(letter, lengths, generators, rules, numbers)
-    yield from pairwise("N", lengths, generators, rules)
+    yield from pairwise("K", lengths, generators)
+    for letter in "kN":
+        yield from pairwise(letter, lengths, generators, rules)
     yield from pairwise("B", lengths, generators, rules, words, words)
 
 
@@ -130,6 +132,8 @@ def checks_of_a_code(draw):
     for n in range(67):
         for g in [0, 2, 10, 138] + list(range(1, 141, 2)):
             yield line("m", n, g, draw.one_of((0, 0, 1, 2, 3)), draw.below(2 ** min(max(n, 3), 64)))
+            yield line("K", n, g)
+            yield line("k", n, g, draw.one_of((1, 2)))
     for n in (7, 63):
         for g in range(141):
             yield line("r", n, g, draw.below(2 ** n))
@@ -189,6 +193,11 @@ def cells_on_codes(draw):
         yield line("B", n, g, rule, cells(draw.word(n, g), n), cells(draw.word(n, g), n))
 
 
+def families(draw):
+    for family in [*range(15), 255, 256, 2 ** 32 + 1, HUGE, draw.bits(64)]:
+        yield line("F", family)
+
+
 def two_readings(draw):
     """Two readings of one plate, or of two, damaged each in its own way."""
     for n, g, rule in ((7, 11, 1), (7, 29, 2), (15, 465, 2), (15, 19, 1), (23, 2787, 2), (63, 67, 1)):
@@ -220,6 +229,6 @@ def lines_of_calls():
     for code in ((7, 29, 2), (15, 465, 2), (33, ONES_32, 2)):
         lines += faults_on_a_code(draw, *code)
     for section in (bad_cell_at_each_place, division, long_division, checks_of_a_code, numbers_on_codes,
-                    generators_of_degree_32, cells_on_codes, two_readings, lines_on_readers, every_word):
+                    generators_of_degree_32, cells_on_codes, families, two_readings, lines_on_readers, every_word):
         lines += section(draw)
     return list(OrderedDict.fromkeys(lines))

@@ -99,6 +99,14 @@ def mending_checks(n, g, rule):
     return {**code_checks(n, g), 4: lambda: rule in (0, 1, 2), 5: lambda: carries(n, g, rule)}
 
 
+def check_code(n, g):
+    return (first_met(code_checks(n, g)),)
+
+
+def check_rule(n, g, rule):
+    return (first_met(mending_checks(n, g, rule)),)
+
+
 # Division and the two remainder calls.
 
 
@@ -381,16 +389,27 @@ def better(n, g, rule, first, second):
                         10: lambda: not (both_readable() and message(first) != message(second)),
                         8: lambda: found(first) or found(second)})
     if number:
-        return number, ()
+        return number, 0, ()
     if both_readable():
-        return 0, second if found(second).mended < found(first).mended else first
-    return 0, first if found(first) else second
+        takes_first = found(first).mended <= found(second).mended
+    else:
+        takes_first = found(first)
+    return (0, 1, first) if takes_first else (0, 2, second)
 
 
 # Plate families, numbered from 1.
 
 FAMILIES = ((7, 11), (7, 13), (7, 29), (15, 465), (15, 1335), (15, 19),
             (15, 53), (23, 2787), (23, 3189), (31, 37), (31, 1897), (63, 67))
+
+
+def family(number):
+    """Length and generator of a family, and whether it carries rule 2; zeros where there is none."""
+    if not 1 <= number <= len(FAMILIES):
+        return 0, 0, 0
+    n, g = FAMILIES[number - 1]
+    return n, g, int(carries(n, g, 2))
+
 
 # Records and the program `strips`.
 

@@ -42,7 +42,8 @@ def first_found(n, g, rule, word):
 
 
 def second_when_equal(n, g, rule, first, second):
-    return right["better"](n, g, rule, first, second)[0], right["better"](n, g, rule, second, first)[1]
+    number, which, word = right["better"](n, g, rule, second, first)
+    return number, which and 3 - which, word
 
 
 def divisor_made_odd(name):

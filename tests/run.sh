@@ -1,5 +1,5 @@
 #!/bin/sh
-# The library from C and from Rust: every call on the lines that the second program made, compared with what it expects.
+# The library from C and from Rust: the calls on the lines that the second program made, compared with what it expects.
 # It wants the crates proved (`rt check plate`); gcc and cargo are installed where they are missing.
 set -eu
 cd "$(dirname "$0")/.."

@@ -107,20 +107,88 @@ static __attribute__((noipa)) plate_decoding c_decode(size_t n, uint64_t g, uint
     return x;
 }
 
+static uint64_t halved(uint64_t g, uint64_t s) { return (s & 1 ? s ^ g : s) / 2; }
+
+static uint64_t in_form(const plate_reader *d)
+{
+    if (c_check_rule(d->n, d->g, d->rule) || d->clocks > 2 * d->n || d->mended > (d->clocks > d->n ? d->clocks - d->n : 0))
+        return 0;
+    for (size_t i = 0; i < 32; i++)
+        if (d->stages[i] > 1 || (d->stages[i] && i >= (size_t)degree(d->g)))
+            return 0;
+    for (size_t i = 0; i < 63; i++)
+        if (d->cells[i] > 1 || (d->cells[i] && i >= d->n))
+            return 0;
+    return 1;
+}
+
+static void shift(plate_reader *d, uint8_t input)
+{
+    uint8_t f = d->stages[degree(d->g) - 1];
+    for (int i = degree(d->g) - 1; i > 0; i--)
+        d->stages[i] = d->stages[i - 1] ^ (f & (d->g >> i & 1));
+    d->stages[0] = input ^ f;
+}
+
+static __attribute__((noipa)) plate_clocked c_clock(plate_reader d, uint8_t cell)
+{
+    plate_clocked x = {11, 0, d};
+    if (!in_form(&d) || d.clocks >= 2 * d.n)
+        return x;
+    x.number = 7;
+    if (cell > 1 || (cell && d.clocks >= d.n))
+        return x;
+    if (d.clocks < d.n) {
+        d.cells[d.clocks] = cell;
+    } else {
+        size_t i = d.clocks - d.n;
+        uint64_t s = 0, u = halved(d.g, 1);
+        for (int j = 32; j-- > 0;)
+            s = s * 2 + d.stages[j];
+        if (d.rule && (s == u || (d.rule == 2 && (s == (u ^ 1) || s == (u ^ halved(d.g, u)))))) {
+            for (int j = 0; j < 32; j++)
+                d.stages[j] ^= u >> j & 1;
+            d.cells[i] ^= 1;
+            d.mended++;
+        }
+        x.cell = d.cells[i];
+    }
+    shift(&d, cell);
+    d.clocks++;
+    x.number = 0;
+    x.reader = d;
+    return x;
+}
+
+/* A word of 63 cells through 126 clocks: what the last clock gives out, and the count. */
+#define RUN(clock)                                                                                                                                     \
+    static uint64_t run_##clock(uint64_t g, uint64_t rule, uint64_t w)                                                                                 \
+    {                                                                                                                                                  \
+        plate_reader d = plate_start(63, g, rule).reader;                                                                                              \
+        plate_clocked x = {0};                                                                                                                         \
+        for (int i = 0; i < 126; i++) {                                                                                                                \
+            x = clock(d, i < 63 ? w >> (62 - i) & 1 : 0);                                                                                              \
+            d = x.reader;                                                                                                                              \
+        }                                                                                                                                              \
+        return d.mended * 2 + x.cell;                                                                                                                  \
+    }
+RUN(plate_clock)
+RUN(c_clock)
+
 /* ---- timing */
 
-enum { TURNS = 20000, ROUNDS = 7 };
+enum { ROUNDS = 5 };
 
 static volatile uint64_t sink;
 
-#define BEST(result, call)                                                                                                                             \
+#define BEST(result, turns, call)                                                                                                                      \
     do {                                                                                                                                               \
         double best = 1e18;                                                                                                                            \
         for (int round = 0; round < ROUNDS; round++) {                                                                                                 \
             double from = now();                                                                                                                       \
-            for (uint64_t turn = 0; turn < TURNS; turn++)                                                                                              \
+            for (uint64_t turn = 0; turn < turns; turn++)                                                                                              \
                 sink += (call);                                                                                                                        \
-            double took = (now() - from) / TURNS;                                                                                                      \
+            double took = (now() - from) / turns;                                                                                                      \
             if (took < best)                                                                                                                           \
                 best = took;                                                                                                                           \
         }                                                                                                                                              \
@@ -133,21 +201,35 @@ int main(void)
 {
     double a, b, c, d;
     const uint64_t one = 67, two = 4191;
-    BEST(a, plate_check_rule(63, one, 1));
-    BEST(b, c_check_rule(63, one, 1));
+    BEST(a, 20000, plate_check_rule(63, one, 1));
+    BEST(b, 20000, c_check_rule(63, one, 1));
     show("checks 1 to 5, n = 63, rule 1", a, b);
-    BEST(c, plate_check_rule(63, two, 2));
-    BEST(d, c_check_rule(63, two, 2));
+    BEST(c, 20000, plate_check_rule(63, two, 2));
+    BEST(d, 20000, c_check_rule(63, two, 2));
     show("checks 1 to 5, n = 63, rule 2", c, d);
     double e, f;
-    BEST(e, plate_decode_systematic_number(63, two, 2, turn * UINT64_C(0x9E3779B97F4A7C15) >> 1).number);
-    BEST(f, c_decode(63, two, 2, turn * UINT64_C(0x9E3779B97F4A7C15) >> 1).number);
+    BEST(e, 20000, plate_decode_systematic_number(63, two, 2, turn * UINT64_C(0x9E3779B97F4A7C15) >> 1).number);
+    BEST(f, 20000, c_decode(63, two, 2, turn * UINT64_C(0x9E3779B97F4A7C15) >> 1).number);
     show("decoding of any word on numbers, n = 63, rule 2, checks too", e, f);
     show("  the same after the checks", e - c, f - d);
     uint64_t word = plate_encode_systematic_number(63, two, 0x1234567890ABC).value;
-    BEST(e, plate_decode_systematic_number(63, two, 2, word ^ UINT64_C(3) << turn % 62).message);
-    BEST(f, c_decode(63, two, 2, word ^ UINT64_C(3) << turn % 62).message);
+    BEST(e, 20000, plate_decode_systematic_number(63, two, 2, word ^ UINT64_C(3) << turn % 62).message);
+    BEST(f, 20000, c_decode(63, two, 2, word ^ UINT64_C(3) << turn % 62).message);
     show("decoding of a word with two wrong cells, checks too", e, f);
     show("  the same after the checks", e - c, f - d);
+    word ^= 3;
+    uint64_t single = plate_encode_systematic_number(63, one, 0x1234567890ABC).value ^ 4;
+    if (run_plate_clock(two, 2, word) != run_c_clock(two, 2, word) || run_plate_clock(one, 1, single) != run_c_clock(one, 1, single)) {
+        printf("the clocked readers differ\n");
+        return 1;
+    }
+    BEST(e, 200, run_plate_clock(one, 1, single));
+    BEST(f, 200, run_c_clock(one, 1, single));
+    show("a clock, n = 63, rule 1, the reader checked to be in form", e / 126, f / 126);
+    show("  the same without the checks 1 to 5", e / 126 - a, f / 126 - b);
+    BEST(e, 200, run_plate_clock(two, 2, word));
+    BEST(f, 200, run_c_clock(two, 2, word));
+    show("a clock, n = 63, rule 2, the reader checked to be in form", e / 126, f / 126);
+    show("  the same without the checks 1 to 5", e / 126 - c, f / 126 - d);
     return 0;
 }

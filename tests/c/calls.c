@@ -149,9 +149,22 @@ static void better(void)
     read_cells(&a);
     read_cells(&b);
     uint64_t word = plate_better_word(n, g, rule, a.cell, a.length, b.cell, b.length);
-    printf("%" PRIu64, plate_better_number(n, g, rule, a.cell, a.length, b.cell, b.length));
+    two(plate_better_number(n, g, rule, a.cell, a.length, b.cell, b.length), word);
     const cells *c = word == 1 ? &a : &b;
     show_cells(c->cell, word ? c->length : 0);
+}
+
+static void checks(char letter)
+{
+    size_t n = number();
+    uint64_t g = number();
+    printf("%" PRIu64, letter == 'K' ? plate_check_code(n, g) : plate_check_rule(n, g, number()));
+}
+
+static void family(void)
+{
+    uint64_t f = number();
+    printf("%zu %" PRIu64 " %d", plate_family_length(f), plate_family_generator(f), plate_family_pairs(f));
 }
 
 static void on_numbers(char letter)
@@ -193,6 +206,10 @@ int main(void)
             reader(letter);
         } else if (letter == 'B') {
             better();
+        } else if (strchr("Kk", letter)) {
+            checks(letter);
+        } else if (letter == 'F') {
+            family();
         } else {
             on_numbers(letter);
         }

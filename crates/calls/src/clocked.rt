@@ -11,7 +11,7 @@ use super::results::put_unclear;
 use reader::Reader;
 
 // N: n g rule.
-pub fn start(letter: u8, line: &[u8], out: &mut [u8], at: usize) -> usize {
+pub(crate) fn start(letter: u8, line: &[u8], out: &mut [u8], at: usize) -> usize {
     let head = head_of(letter, line);
     if head.end != line.len() {
         return put_unclear(out, at);
@@ -22,7 +22,7 @@ pub fn start(letter: u8, line: &[u8], out: &mut [u8], at: usize) -> usize {
 }
 
 // C: a reader, and a cell in decimal.
-pub fn clock(line: &[u8], out: &mut [u8], at: usize) -> usize {
+pub(crate) fn clock(line: &[u8], out: &mut [u8], at: usize) -> usize {
     let standing = reader_of(line);
     let cell = number_at(line, standing.end);
     if cell.end != line.len() {
@@ -43,7 +43,7 @@ fn put_answer(reader: Reader, message: &mut [u8], out: &mut [u8], at: usize) -> 
 }
 
 // A: a reader and a message.
-pub fn answer(line: &[u8], out: &mut [u8], at: usize) -> usize {
+pub(crate) fn answer(line: &[u8], out: &mut [u8], at: usize) -> usize {
     let standing = reader_of(line);
     let mut message = [0u8; MOST];
     let read = cells_at(line, standing.end, &mut message);

@@ -8,28 +8,28 @@ ghost use Rattle.io.specs.Counts.{Counts};
 const NOWHERE: usize = usize::MAX;
 
 // The most cells of a field that has no fixed count.
-pub const MOST: usize = 8192;
+pub(crate) const MOST: usize = 8192;
 
-pub struct Number {
+pub(crate) struct Number {
     pub value: u64,
     pub end: usize,
 }
 
 // How many cells were read.
-pub struct Cells {
+pub(crate) struct Cells {
     pub count: usize,
     pub end: usize,
 }
 
 // The numbers that a line begins with: n, g, which is a generator or a divisor, and the rule. What the line does not have is 0.
-pub struct Head {
+pub(crate) struct Head {
     pub n: usize,
     pub g: u64,
     pub rule: u64,
     pub end: usize,
 }
 
-pub struct Standing {
+pub(crate) struct Standing {
     pub reader: Reader,
     pub end: usize,
 }
@@ -56,7 +56,7 @@ fn digit(b: u8) -> u8
 }
 
 // A number in decimal, as far as it is below 2^64: what is left of a larger one begins no field.
-pub fn number_at(line: &[u8], at: usize) -> Number {
+pub(crate) fn number_at(line: &[u8], at: usize) -> Number {
     let first = behind(line, at, b' ');
     let mut value: u64 = 0;
     let mut i = first;
@@ -125,7 +125,7 @@ fn cell_at(line: &[u8], i: usize) -> Cell
 }
 
 // Cells, put into the front of those that are lent, as far as they reach: what is left begins no field.
-pub fn cells_at(line: &[u8], at: usize, cells: &mut [u8]) -> Cells
+pub(crate) fn cells_at(line: &[u8], at: usize, cells: &mut [u8]) -> Cells
     ensures { λ r. ⌜ Counts (r .count) (now (cells .exit)) ⌝ }
 {
     let first = behind(line, at, b' ');
@@ -182,16 +182,16 @@ fn ruled_at(line: &[u8], at: usize) -> Head {
 }
 
 // The head of a line, whose letter says which numbers it has.
-pub fn head_of(letter: u8, line: &[u8]) -> Head {
+pub(crate) fn head_of(letter: u8, line: &[u8]) -> Head {
     match letter {
-        b'D' | b'L' | b'H' => divisor_at(line, 1),
-        b'S' | b'P' | b'R' | b's' | b'p' | b'r' => code_at(line, 1),
+        b'D' | b'L' | b'H' | b'F' => divisor_at(line, 1),
+        b'S' | b'P' | b'R' | b's' | b'p' | b'r' | b'K' => code_at(line, 1),
         _ => ruled_at(line, 1),
     }
 }
 
 // A reader's seven fields.
-pub fn reader_of(line: &[u8]) -> Standing {
+pub(crate) fn reader_of(line: &[u8]) -> Standing {
     let code = ruled_at(line, 1);
     let clocks = number_at(line, code.end);
     let mended = number_at(line, clocks.end);

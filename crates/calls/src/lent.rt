@@ -22,7 +22,7 @@ fn put_remainder(letter: u8, head: Head, cells: &[u8], out: &mut [u8], at: usize
 }
 
 // L and H: divisor dividend. R: n g word.
-pub fn one(letter: u8, line: &[u8], out: &mut [u8], at: usize) -> usize {
+pub(crate) fn one(letter: u8, line: &[u8], out: &mut [u8], at: usize) -> usize {
     let head = head_of(letter, line);
     let mut cells = [0u8; MOST];
     let read = cells_at(line, head.end, &mut cells);
@@ -92,7 +92,8 @@ fn put_better<'a>(
     at: usize,
 ) -> usize {
     let number = readings::better_number(head.n, head.g, head.rule, first, second);
-    let next = text::put_number(out, at, number);
+    let word = readings::better_word(head.n, head.g, head.rule, first, second);
+    let next = put_two(out, at, number, word);
     let taken = readings::better(head.n, head.g, head.rule, first, second);
     put_cells(out, next, taken)
 }
@@ -114,7 +115,7 @@ fn put_results(
 }
 
 // D: divisor dividend quotient. S and P: n g message word. M, Q and W: n g rule word message. B: n g rule first second.
-pub fn two(letter: u8, line: &[u8], out: &mut [u8], at: usize) -> usize {
+pub(crate) fn two(letter: u8, line: &[u8], out: &mut [u8], at: usize) -> usize {
     let head = head_of(letter, line);
     let mut first = [0u8; MOST];
     let one = cells_at(line, head.end, &mut first);

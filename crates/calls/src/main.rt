@@ -22,6 +22,7 @@ fn call(letter: u8, line: &[u8], out: &mut [u8], at: usize) -> usize {
         b'C' => clocked::clock(line, out, at),
         b'A' => clocked::answer(line, out, at),
         b's' | b'p' | b'r' | b'm' | b'q' => plain::call(letter, line, out, at),
+        b'K' | b'k' | b'F' => plain::check(letter, line, out, at),
         _ => results::put_unclear(out, at),
     }
 }

@@ -34,8 +34,32 @@ fn put_decoded(letter: u8, head: Head, word: u64, out: &mut [u8], at: usize) -> 
     put_next(out, next, x.message)
 }
 
+fn put_checks(letter: u8, head: Head, out: &mut [u8], at: usize) -> usize {
+    if letter == b'K' {
+        return text::put_number(out, at, codes::check_code(head.n, head.g));
+    }
+    text::put_number(out, at, codes::check_rule(head.n, head.g, head.rule))
+}
+
+fn put_family(family: u64, out: &mut [u8], at: usize) -> usize {
+    let next = put_two(out, at, families::length_of(family) as u64, families::generator_of(family));
+    put_next(out, next, families::pairs_of(family) as u64)
+}
+
+// K: n g. k: n g rule. F: a family.
+pub(crate) fn check(letter: u8, line: &[u8], out: &mut [u8], at: usize) -> usize {
+    let head = head_of(letter, line);
+    if head.end != line.len() {
+        return put_unclear(out, at);
+    }
+    if letter == b'F' {
+        return put_family(head.g, out, at);
+    }
+    put_checks(letter, head, out, at)
+}
+
 // s and p: n g message. r: n g word. m and q: n g rule word.
-pub fn call(letter: u8, line: &[u8], out: &mut [u8], at: usize) -> usize {
+pub(crate) fn call(letter: u8, line: &[u8], out: &mut [u8], at: usize) -> usize {
     let head = head_of(letter, line);
     let input = number_at(line, head.end);
     if input.end != line.len() {

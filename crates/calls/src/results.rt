@@ -3,18 +3,18 @@ use reader::Reader;
 ghost use Prim.Native.Nat.{_<_};
 
 // What is printed for a line that is not of the form.
-pub fn put_unclear(out: &mut [u8], at: usize) -> usize {
+pub(crate) fn put_unclear(out: &mut [u8], at: usize) -> usize {
     text::put_bytes(out, at, b"unclear")
 }
 
 // A number behind others.
-pub fn put_next(out: &mut [u8], at: usize, value: u64) -> usize {
+pub(crate) fn put_next(out: &mut [u8], at: usize, value: u64) -> usize {
     let next = text::put_bytes(out, at, b" ");
     text::put_number(out, next, value)
 }
 
 // The number handed back, and another.
-pub fn put_two(out: &mut [u8], at: usize, number: u64, value: u64) -> usize {
+pub(crate) fn put_two(out: &mut [u8], at: usize, number: u64, value: u64) -> usize {
     let next = text::put_number(out, at, number);
     put_next(out, next, value)
 }
@@ -36,7 +36,7 @@ fn put_cell(out: &mut [u8], at: usize, cell: u8) -> usize {
 }
 
 // Cells behind numbers; `-` for no cells.
-pub fn put_cells(out: &mut [u8], at: usize, cells: &[u8]) -> usize {
+pub(crate) fn put_cells(out: &mut [u8], at: usize, cells: &[u8]) -> usize {
     let mut next = text::put_bytes(out, at, b" ");
     if cells.len() == 0 {
         return text::put_bytes(out, next, b"-");
@@ -50,7 +50,7 @@ pub fn put_cells(out: &mut [u8], at: usize, cells: &[u8]) -> usize {
 }
 
 // The number handed back, another, and cells.
-pub fn put_three(out: &mut [u8], at: usize, number: u64, value: u64, cells: &[u8]) -> usize {
+pub(crate) fn put_three(out: &mut [u8], at: usize, number: u64, value: u64, cells: &[u8]) -> usize {
     let next = put_two(out, at, number, value);
     put_cells(out, next, cells)
 }
@@ -66,7 +66,7 @@ fn put_stored(out: &mut [u8], at: usize, reader: Reader) -> usize {
 }
 
 // A reader's seven fields.
-pub fn put_reader(out: &mut [u8], at: usize, reader: Reader) -> usize {
+pub(crate) fn put_reader(out: &mut [u8], at: usize, reader: Reader) -> usize {
     let n = put_next(out, at, reader.n as u64);
     let g = put_next(out, n, reader.g);
     let rule = put_next(out, g, reader.rule);

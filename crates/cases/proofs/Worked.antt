@@ -17,6 +17,8 @@ use Rattle.poly.proofs.Degree.{degree-of, degree-unique}
 use Rattle.poly.proofs.Division.{divide-divided, divide-remainder, remainder-unique}
 use Rattle.poly.proofs.Cells.{length-cells, cells-cells, poly-cells}
 use Rattle.verdict.proofs.Verdict.{passed-on, settles-yes, settles-no, verdict-on}
+use Rattle.cells.specs.Lent.{cellsCheck}
+use Rattle.division.specs.Division.{dividendCheck, divisorCheck, quotientCheck}
 use Rattle.codes.specs.Code.{codeChecks}
 use Rattle.codes.specs.Mending.{Pattern, Mends, ruleChecks}
 use Rattle.codes.specs.Coding.{Systematic, Product, First}
@@ -72,7 +74,8 @@ carried f (suc (suc (suc rule))) = false
 unfoldable right : Case → Bool
 unfolding degree divide times patternAt patternCount ones
 right (divides n p g q s) =
-    ltb 0 g && (ltb p (2 ^ n) && (ltb q (2 ^ n) && (eqb (divide p g .quotient) q && eqb (divide p g .remainder) s)))
+    (ltb n 4097 && (ltb 0 g && (ltb 0 (degree g) && ltb (degree g) 33)))
+    && (ltb p (2 ^ n) && (ltb q (2 ^ n) && (eqb (divide p g .quotient) q && eqb (divide p g .remainder) s)))
 right (systematic f d w) = family f && (fits f d && eqb w (wordOf (generatorOf f) d))
 right (product f d w) = family f && (fits f d && eqb w (times d (generatorOf f)))
 right (remains f w s) = family f && (ltb w (2 ^ lengthOf f) && eqb (divide w (generatorOf f) .remainder) s)
@@ -158,9 +161,15 @@ module _ (f : ℕ) (t : T (family f)) where
 
 quotient : (n p g q s : ℕ) → T (right (divides n p g q s)) → Holds (divides n p g q s)
 unfolding right
-quotient n p g q s t =
-    let h = ltb→lt 0 g (and-left (ltb 0 g) _ t) in
-    let t₁ = and-right (ltb 0 g) _ t in
+quotient n p g q s t lent size =
+    let t₁ = and-right (ltb n 4097 && (ltb 0 g && (ltb 0 (degree g) && ltb (degree g) 33))) _ t in
+    let b = and-left (ltb n 4097 && (ltb 0 g && (ltb 0 (degree g) && ltb (degree g) 33))) _ t in
+    let b₁ = and-right (ltb n 4097) _ b in
+    let b₂ = and-right (ltb 0 g) _ b₁ in
+    let few = ltb→lt n 4097 (and-left (ltb n 4097) _ b) in
+    let h = ltb→lt 0 g (and-left (ltb 0 g) _ b₁) in
+    let low = ltb→lt 0 (degree g) (and-left (ltb 0 (degree g)) _ b₂) in
+    let high = ltb→lt (degree g) 33 (and-right (ltb 0 (degree g)) _ b₂) in
     let lp = ltb→lt p (2 ^ n) (and-left (ltb p (2 ^ n)) _ t₁) in
     let t₂ = and-right (ltb p (2 ^ n)) _ t₁ in
     let lq = ltb→lt q (2 ^ n) (and-left (ltb q (2 ^ n)) _ t₂) in
@@ -168,11 +177,14 @@ quotient n p g q s t =
     let eq = eqb→eq (divide p g .quotient) q (and-left (eqb (divide p g .quotient) q) _ t₃) in
     let es = eqb→eq (divide p g .remainder) s (and-right (eqb (divide p g .quotient) q) _ t₃) in
     let v : Divided p g q s = rw (eq, es) at (divide-divided p h) in
-    record {
+    settles-yes (dividendCheck (cells n p) ∷ divisorCheck g ∷ quotientCheck (cells n p) lent ∷ cellsCheck (cells n p) ∷ []) tt
+    (omega (arith, length-cells n p, few),
+    (record { r = degree g; degree = degree-of g h; least = low; most = omega (arith, high) }, (size ∙ sym (length-cells n p), (cells-cells n p, tt))))
+    (record {
       long = length-cells n q ∙ sym (length-cells n p);
       cells = cells-cells n q;
       divided = rw (poly-cells n p, poly-cells n q, mod-eq-of-lt lp, mod-eq-of-lt lq) v;
-    }
+    })
 
 -- a message that fits, and a word of n cells, on a family's code
 module _ (f : ℕ) (t : T (family f)) where

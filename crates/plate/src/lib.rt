@@ -1,16 +1,15 @@
 // The calls of the library under names that C and Rust can link. Each does what the call of its name does, with the same promise; numbers pass as
 // themselves, lent cells as a pointer and then a length.
 ghost use mathlib.Core.Path.{_≡_};
-ghost use mathlib.Core.Logic.{_⊎_};
-ghost use Rattle.verdict.specs.Verdict.{Verdict, Settles};
+ghost use Rattle.verdict.specs.Verdict.{Verdict};
 ghost use Rattle.division.specs.Division.{DividesCells, LeavesLow, LeavesHigh};
 ghost use Rattle.codes.specs.Code.{codeChecks};
 ghost use Rattle.codes.specs.Mending.{ruleChecks};
 ghost use Rattle.codes.specs.Coding.{Systematic, Product, First};
 ghost use Rattle.codes.specs.Calls.{Encodes, Leaves, Decodes, EncodesCells, LeavesCells, DecodesCells};
 ghost use Rattle.reader.specs.Reader.{Starts, Clocks, Answers};
-ghost use Rattle.readings.specs.Readings.{readingChecks, TakesFirst, TakesSecond, Picks};
-ghost use Rattle.families.specs.Families.{lengthOf, generatorOf};
+ghost use Rattle.readings.specs.Readings.{Numbered, Picks};
+ghost use Rattle.families.specs.Families.{lengthOf, generatorOf, pairsOf};
 
 // The checks 1 to 3.
 #[no_mangle]
@@ -158,7 +157,7 @@ pub extern "C" fn plate_decode_product_number(
     numbers::decode_product(n, g, rule, word)
 }
 
-// A reader at its first clock.
+// A reader before its first clock.
 #[no_mangle]
 pub extern "C" fn plate_start(n: usize, g: u64, rule: u64) -> reader::Started
     ensures { λ x. ⌜ Starts n g rule x ⌝ }
@@ -213,9 +212,7 @@ pub extern "C" fn plate_better_number(
     first: &[u8],
     second: &[u8],
 ) -> u64
-    ensures { λ m. ⌜ Settles (readingChecks n g rule (now (first .entry)) (now (second .entry))) m
-        (TakesFirst n g rule (now (first .entry)) (now (second .entry)) ⊎ TakesSecond n g rule (now (first .entry)) (now (second .entry)))
-        ((TakesFirst n g rule (now (first .entry)) (now (second .entry)) → ⊥) × (TakesSecond n g rule (now (first .entry)) (now (second .entry)) → ⊥)) ⌝ }
+    ensures { λ m. ⌜ Numbered n g rule (now (first .entry)) (now (second .entry)) m ⌝ }
 {
     readings::better_number(n, g, rule, first, second)
 }
@@ -234,4 +231,12 @@ pub extern "C" fn plate_family_generator(family: u64) -> u64
     ensures { λ g. ⌜ g ≡ generatorOf family ⌝ }
 {
     families::generator_of(family)
+}
+
+// Whether a family carries rule 2; false where there is no such family.
+#[no_mangle]
+pub extern "C" fn plate_family_pairs(family: u64) -> bool
+    ensures { λ b. ⌜ b ≡ pairsOf family ⌝ }
+{
+    families::pairs_of(family)
 }

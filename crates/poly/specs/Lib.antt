@@ -1,5 +1,5 @@
 -- Polynomials with coefficients 0 and 1. `Poly`, `Cells` and `Register` are what a reader has to believe.
--- `Shifts` computes, and is proved to agree with those.
+-- `Shifts` is what the shifts of a register held as a number give, and is proved to agree with those.
 pub mod Poly
 pub mod Cells
 pub mod Register

@@ -12,8 +12,8 @@ use lib.ListN.{length}
 use Rattle.poly.specs.Poly.{sum}
 use Rattle.poly.specs.Cells.{Cells, poly}
 use Rattle.poly.proofs.Cells.{poly-lt}
-use Rattle.verdict.specs.Verdict.{Check, Verdict, Passed, Settles, Where}
-use Rattle.verdict.proofs.Verdict.{verdict-settled, passed-verdict, passed-on, passed-first, verdict-stop, verdict-on}
+use Rattle.verdict.specs.Verdict.{Check, Verdict, Passed, Where}
+use Rattle.verdict.proofs.Verdict.{verdict-settled, passed-verdict, passed-on, passed-first, passed-last, verdict-stop, verdict-on}
 use Rattle.codes.specs.Mending.{Pattern, Mends, Readable, ruleChecks}
 use Rattle.codes.specs.Coding.{First, Decoded}
 use Rattle.codes.specs.Calls.{wordCheck, readableCheck, Decodes}
@@ -22,7 +22,7 @@ use Rattle.codes.proofs.Checking.{Allowed, allowed-of, of-allowed}
 use Rattle.codes.proofs.Coding.{allowed-laws, first-unique}
 use Rattle.codes.proofs.Cutting.{first-number, first-passed}
 use Rattle.numbers.specs.declared.Decoding.{Decoding}
-use Rattle.readings.specs.Readings.{Agree, SecondWord, alone, fewer, FirstWord, only, enough, bothCheck, cellsCheck, wordsChecks, messageChecks, readingChecks, TakesFirst, TakesSecond, Picks}
+use Rattle.readings.specs.Readings.{Agree, SecondWord, alone, fewer, FirstWord, only, enough, bothCheck, cellsCheck, wordsChecks, messageChecks, readingChecks, TakesFirst, TakesSecond, Numbered, Picks}
 use Rattle.readings.specs.Within.{Weighs, neither, onlySecond, onlyFirst, differ, Chosen}
 use Rattle.readings.specs.Within.{fewer as weighs-fewer, enough as weighs-enough}
 
@@ -241,8 +241,7 @@ module _ {A : Type 0} {n g rule m w : ℕ} {a b : List ℕ} (x : Chosen n g rule
 
 -- the number is 0 exactly if a word is taken
 pub number-chosen : {n g rule m w : ℕ} (a b : List ℕ) → Chosen n g rule a b m w
-    → Settles (readingChecks n g rule a b) m (TakesFirst n g rule a b ⊎ TakesSecond n g rule a b)
-    ((TakesFirst n g rule a b → ⊥) × (TakesSecond n g rule a b → ⊥))
+    → Numbered n g rule a b m
 number-chosen {n} {g} {rule} {m} {w} a b x =
     record { ordered = tt; verdict = x .verdict; done = λ e. go e (ℕ-discrete w 1); refused = λ f. x .none (x .other f .0) (x .other f .1) }
   where
@@ -252,8 +251,8 @@ number-chosen {n} {g} {rule} {m} {w} a b x =
 
 -- ---- two results of one call
 
-pub better-number-settled : {n g rule m m′ : ℕ} (a b : List ℕ) → Verdict (readingChecks n g rule a b) m → Verdict (readingChecks n g rule a b) m′ → m ≡ m′
-better-number-settled {n} {g} {rule} a b = verdict-settled (readingChecks n g rule a b)
+pub better-number-settled : {n g rule m m′ : ℕ} (a b : List ℕ) → Numbered n g rule a b m → Numbered n g rule a b m′ → m ≡ m′
+better-number-settled {n} {g} {rule} a b x y = verdict-settled (readingChecks n g rule a b) (x .verdict) (y .verdict)
 
 -- what is told of the one picked, in a type whose equality can be decided, is one thing: `told` is the cells of a slice, or the number itself
 module _ {A B : Type 0} (told : A → B) (none : B) (same : Discrete B) where
@@ -275,3 +274,26 @@ better-settled cells = picks-settled cells [] (List-discrete ℕ-discrete)
 
 pub better-word-settled : {n g rule v w : ℕ} {a b : List ℕ} → Picks n g rule a b 1 2 (λ h. h ≡ 0) v → Picks n g rule a b 1 2 (λ h. h ≡ 0) w → v ≡ w
 better-word-settled = picks-settled (λ h. h) 0 ℕ-discrete
+
+-- ---- the two calls together: the number is 0 exactly if cells are handed back
+
+module _ {A : Type 0} (cells : A → List ℕ) {n g rule m : ℕ} {first second r : A} (x : Numbered n g rule (cells first) (cells second) m)
+    (p : Picks n g rule (cells first) (cells second) first second (λ h. cells h ≡ []) r) where
+  -- words of n cells are not empty
+  some-cells : Passed (wordsChecks n g rule (cells first) (cells second)) → (h : A) → length (cells h) ≡ n → cells h ≡ [] → ⊥
+  some-cells t h l e =
+      let least = allowed-of (passed-first (ruleChecks n g rule) (bothCheck n (cells first) (cells second) ∷ cellsCheck (cells first) (cells second) ∷ []) t) .code .least in
+      omega (arith, least, l, ap length e)
+
+  long : Passed (wordsChecks n g rule (cells first) (cells second)) → (length (cells first) ≡ n) × (length (cells second) ≡ n)
+  long t = passed-last (ruleChecks n g rule) (bothCheck n (cells first) (cells second) ∷ cellsCheck (cells first) (cells second) ∷ []) t .0
+
+  pub better-given : m ≡ 0 → cells r ≡ [] → ⊥
+  better-given e none = go (x .done e)
+    where
+      go : TakesFirst n g rule (cells first) (cells second) ⊎ TakesSecond n g rule (cells first) (cells second) → ⊥
+      go (inl t) = some-cells (t .0) first (long (t .0) .0) (rw (p .takesFirst t) at none)
+      go (inr t) = some-cells (t .0) second (long (t .0) .1) (rw (p .takesSecond t) at none)
+
+  pub better-none : (m ≡ 0 → ⊥) → cells r ≡ []
+  better-none f = p .takesNone (x .refused f .0) (x .refused f .1)

@@ -7,7 +7,7 @@ use lib.Count.{ones}
 use lib.ListN.{length}
 use Rattle.poly.specs.Poly.{sum}
 use Rattle.poly.specs.Cells.{Cells, poly}
-use Rattle.verdict.specs.Verdict.{Check, Passed}
+use Rattle.verdict.specs.Verdict.{Check, Passed, Settles}
 use Rattle.codes.specs.Mending.{Pattern, Mends, Readable, ruleChecks}
 use Rattle.codes.specs.Coding.{First}
 
@@ -70,6 +70,12 @@ TakesFirst n g rule a b = Passed (wordsChecks n g rule a b) × FirstWord (Patter
 
 abbrev pub TakesSecond : ℕ → ℕ → ℕ → List ℕ → List ℕ → Type 0
 TakesSecond n g rule a b = Passed (wordsChecks n g rule a b) × SecondWord (Pattern n rule) n g (poly a) (poly b)
+
+-- The number that goes with it: with 0 one of the two is taken, with any other none is.
+abbrev pub Numbered : ℕ → ℕ → ℕ → List ℕ → List ℕ → ℕ → Type 0
+Numbered n g rule a b m =
+    Settles (readingChecks n g rule a b) m (TakesFirst n g rule a b ⊎ TakesSecond n g rule a b)
+    ((TakesFirst n g rule a b → ⊥) × (TakesSecond n g rule a b → ⊥))
 
 -- What goes with the first word, what goes with the second, or what goes with none.
 pub record Picks {A : Type 0} (n g rule : ℕ) (a b : List ℕ) (first second : A) (None : A → Type 0) (picked : A) : Type 0 where

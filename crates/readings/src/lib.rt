@@ -2,8 +2,7 @@
 ghost use mathlib.Core.Path.{_≡_};
 ghost use mathlib.Core.List.{[]};
 ghost use mathlib.Core.Logic.{_⊎_};
-ghost use Rattle.verdict.specs.Verdict.{Settles};
-ghost use Rattle.readings.specs.Readings.{readingChecks, TakesFirst, TakesSecond, Picks};
+ghost use Rattle.readings.specs.Readings.{Numbered, Picks};
 ghost use Rattle.readings.specs.Within.{Weighs, Chosen};
 
 // The number of two readings, and which word is taken: 1 or 2, or 0 for none.
@@ -87,9 +86,7 @@ pub fn better<'a>(n: usize, g: u64, rule: u64, first: &'a [u8], second: &'a [u8]
 
 // The number that goes with it: 0 exactly if cells are handed back.
 pub fn better_number(n: usize, g: u64, rule: u64, first: &[u8], second: &[u8]) -> u64
-    ensures { λ m. ⌜ Settles (readingChecks n g rule (now (first .entry)) (now (second .entry))) m
-        (TakesFirst n g rule (now (first .entry)) (now (second .entry)) ⊎ TakesSecond n g rule (now (first .entry)) (now (second .entry)))
-        ((TakesFirst n g rule (now (first .entry)) (now (second .entry)) → ⊥) × (TakesSecond n g rule (now (first .entry)) (now (second .entry)) → ⊥)) ⌝ }
+    ensures { λ m. ⌜ Numbered n g rule (now (first .entry)) (now (second .entry)) m ⌝ }
 {
     let c = choose(n, g, rule, first, second);
     c.number

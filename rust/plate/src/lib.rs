@@ -2,7 +2,7 @@
 //!
 //! A cell is a byte 0 or 1, and the first cell of a word is the highest power of x. A generator or a divisor is a number whose bit i is the coefficient
 //! of x^i. Every call takes any numbers and any cells; what can't be used is refused by number (see `include/plate.h` for the numbers and limits). Beside a
-//! refusal every other result is 0 and lent cells hold what they held.
+//! refusal lent cells hold what they held.
 
 /// A number handed back other than 0.
 #[derive(Clone, Copy, Debug, PartialEq, Eq)]
@@ -96,6 +96,7 @@ extern "C" {
     fn plate_check_rule(n: usize, g: u64, rule: u64) -> u64;
     fn plate_family_length(family: u64) -> usize;
     fn plate_family_generator(family: u64) -> u64;
+    fn plate_family_pairs(family: u64) -> bool;
     fn plate_divide(p: *const u8, pn: usize, divisor: u64, q: *mut u8, qn: usize) -> Outcome;
     fn plate_remainder_low(p: *const u8, pn: usize, divisor: u64) -> Outcome;
     fn plate_remainder_high(p: *const u8, pn: usize, divisor: u64) -> Outcome;
@@ -127,10 +128,18 @@ pub fn check_rule(n: usize, g: u64, rule: u64) -> Result<(), Refused> {
     done(unsafe { plate_check_rule(n, g, rule) }, ())
 }
 
-/// Length and generator of a plate family, 1 to 12.
-pub fn family(family: u64) -> Option<(usize, u64)> {
-    let (n, g) = unsafe { (plate_family_length(family), plate_family_generator(family)) };
-    (n != 0).then_some((n, g))
+/// A plate family: its length, its generator, and whether it carries rule 2.
+#[derive(Clone, Copy, Debug, PartialEq, Eq)]
+pub struct Family {
+    pub n: usize,
+    pub g: u64,
+    pub pairs: bool,
+}
+
+/// The families are numbered from 1 to 12.
+pub fn family(number: u64) -> Option<Family> {
+    let (n, g, pairs) = unsafe { (plate_family_length(number), plate_family_generator(number), plate_family_pairs(number)) };
+    (n != 0).then_some(Family { n, g, pairs })
 }
 
 /// The remainder of a dividend; its quotient is written into as many lent cells.

@@ -1,4 +1,4 @@
-//! Every call on the lines that the second program made, compared with what it expects.
+//! The calls on the lines that the second program made, compared with what it expects.
 
 use plate::{numbers, Reader, Refused};
 use std::fmt::Write;
@@ -134,10 +134,16 @@ fn call(line: &str) -> String {
         "B" => {
             let (n, g, rule, first, second) = (f.size(), f.number(), f.number(), f.cells(), f.cells());
             match plate::better(n, g, rule, &first, &second) {
-                Ok(word) => format!("0 {}", shown(word)),
-                Err(Refused(number)) => format!("{number} -"),
+                Ok(word) => format!("0 {} {}", if std::ptr::eq(word, first.as_slice()) { 1 } else { 2 }, shown(word)),
+                Err(Refused(number)) => format!("{number} 0 -"),
             }
         }
+        "K" => number(plate::check_code(f.size(), f.number())).to_string(),
+        "k" => number(plate::check_rule(f.size(), f.number(), f.number())).to_string(),
+        "F" => match plate::family(f.number()) {
+            Some(family) => format!("{} {} {}", family.n, family.g, family.pairs as u8),
+            None => "0 0 0".to_string(),
+        },
         "s" => with_value(numbers::encode_systematic(f.size(), f.number(), f.number())),
         "p" => with_value(numbers::encode_product(f.size(), f.number(), f.number())),
         "r" => with_value(numbers::remainder(f.size(), f.number(), f.number())),
@@ -153,7 +159,7 @@ fn call(line: &str) -> String {
 }
 
 #[test]
-fn every_call_is_as_the_second_program_expects() {
+fn calls_are_as_the_second_program_expects() {
     let folder = Path::new(env!("CARGO_MANIFEST_DIR")).join("../../crates/calls");
     let lines = read_to_string(folder.join("stdin")).expect("crates/calls/stdin");
     let expected = read_to_string(folder.join("stdout")).expect("crates/calls/stdout");
