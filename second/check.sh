@@ -1,5 +1,5 @@
 #!/bin/sh
-# Generates the inputs and outputs of the program `calls` anew and compares them with those beside it.
+# Generates the inputs and outputs of the programs `strips` and `calls` anew and compares them with those beside the two.
 set -eu
 
 second=$(cd "$(dirname "$0")" && pwd)
@@ -10,7 +10,7 @@ trap 'exit 1' HUP INT TERM
 python3 -B "$second/generate.py" "$fresh" || { echo "second: generate.py failed"; exit 1; }
 
 differs=
-for file in calls/stdin calls/stdout; do
+for file in strips/stdin strips/stdout calls/stdin calls/stdout; do
     if [ ! -f "$second/../crates/$file" ]; then
         differs="$differs crates/$file (missing)"
     elif ! cmp -s "$fresh/$file" "$second/../crates/$file"; then
@@ -22,4 +22,4 @@ if [ -n "$differs" ]; then
     echo "second: not as generated:$differs"
     exit 1
 fi
-echo "second: stdin and stdout of calls are as generated"
+echo "second: stdin and stdout of strips and calls are as generated"

@@ -1,5 +1,5 @@
 #!/bin/sh
-# The library from C and from Rust: the calls on the lines that the second program made, compared with what it expects.
+# The library from C and from Rust, and the program `strips`: the calls on the lines that the second program made, compared with what it expects.
 # It wants the crates proved (`rt check plate`); gcc and cargo are installed where they are missing.
 set -eu
 cd "$(dirname "$0")/.."
@@ -29,3 +29,18 @@ gcc -O2 -Wall -Wextra -Werror -Iinclude examples/read.c -Ltarget/staticlib -lpla
 CARGO_TARGET_DIR="$out/cargo" cargo run --quiet --offline --manifest-path rust/plate/Cargo.toml --example read >"$out/read.log" 2>&1 || { cat "$out/read.log"; exit 1; }
 [ "$(cat "$out/read.log")" = "message [1, 1, 0, 1], 1 cell mended" ]
 echo "tests: the programs that README.md shows are as expected"
+
+# The program `strips`: the sample, no input, a rest with and without records before it, records split across reads, and streams that fail.
+sample='7 E 0 0 105
+8 D 0 1 13
+9 D 0 2 28
+10 D 5 0 0'
+[ "$(./strips <examples/plates.bin)" = "$sample" ]
+[ -z "$(./strips </dev/null)" ]
+[ "$(printf 'abc' | ./strips)" = "short 3" ]
+[ "$( (cat examples/plates.bin; printf 'abc') | ./strips)" = "$sample
+short 3" ]
+[ "$( (head -c 21 examples/plates.bin; sleep 1; tail -c +22 examples/plates.bin) | ./strips)" = "$sample" ]
+[ "$(./strips <&- 2>&1)" = "strips: standard input cannot be read" ]
+[ "$(./strips <examples/plates.bin 2>&1 >/dev/full)" = "strips: standard output cannot be written" ]
+echo "tests: strips is as expected"

@@ -42,7 +42,12 @@ fn put_checks(letter: u8, head: Head, out: &mut [u8], at: usize) -> usize {
 }
 
 fn put_family(family: u64, out: &mut [u8], at: usize) -> usize {
-    let next = put_two(out, at, families::length_of(family) as u64, families::generator_of(family));
+    let next = put_two(
+        out,
+        at,
+        families::length_of(family) as u64,
+        families::generator_of(family),
+    );
     put_next(out, next, families::pairs_of(family) as u64)
 }
 

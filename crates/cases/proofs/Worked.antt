@@ -177,9 +177,10 @@ quotient n p g q s t lent size =
     let eq = eqb→eq (divide p g .quotient) q (and-left (eqb (divide p g .quotient) q) _ t₃) in
     let es = eqb→eq (divide p g .remainder) s (and-right (eqb (divide p g .quotient) q) _ t₃) in
     let v : Divided p g q s = rw (eq, es) at (divide-divided p h) in
-    settles-yes (dividendCheck (cells n p) ∷ divisorCheck g ∷ quotientCheck (cells n p) lent ∷ cellsCheck (cells n p) ∷ []) tt
-    (omega (arith, length-cells n p, few),
-    (record { r = degree g; degree = degree-of g h; least = low; most = omega (arith, high) }, (size ∙ sym (length-cells n p), (cells-cells n p, tt))))
+    settles-yes (dividendCheck (cells n p) ∷ divisorCheck g ∷ quotientCheck (cells n p) lent ∷ cellsCheck (cells n p) ∷ []) tt (
+      omega (arith, length-cells n p, few),
+      (record { r = degree g; degree = degree-of g h; least = low; most = omega (arith, high) }, (size ∙ sym (length-cells n p), (cells-cells n p, tt))),
+    )
     (record {
       long = length-cells n q ∙ sym (length-cells n p);
       cells = cells-cells n q;

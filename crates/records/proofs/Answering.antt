@@ -1,0 +1,210 @@
+-- What the jobs give for a family, whose checks pass once and for all.
+-- Assumes nothing.
+use mathlib.Core.Path.{_≡_, refl, ap, _∙_}
+use mathlib.Core.Bool.{Bool, true, false, cond}
+use mathlib.Core.List.{List, [], _∷_, _++_}
+use mathlib.Core.Logic.{inl, inr}
+use Prim.Native.Nat.{ℕ, _+_, _-_, _*_, _/_, _^_, _≤_, _<_}
+use native.Mathlib.Nat.{mul-le-mul, zero-div, div-eq-of-lt, lt-of-lt-of-le}
+use native.Mathlib.Omega.{arith}
+use borrow.Author.Tests.{eqb-true, eqb-false}
+use lib.Count.{ones}
+use lib.Dec.{eqb}
+use lib.ListN.{getD}
+use lib.Pow.{pow-mono, shl-lt}
+use Rattle.poly.specs.Poly.{sum, times, Degree, Remainder, Divides}
+use Rattle.poly.proofs.Sum.{sum-zero, sum-back}
+use Rattle.poly.proofs.Degree.{degree-unique, high-zero}
+use Rattle.poly.proofs.Division.{lower-zero, divided-lower, quotient-unique}
+use Rattle.verdict.specs.Verdict.{Verdict, Tells}
+use Rattle.verdict.proofs.Verdict.{settles-yes, settles-no, verdict-on, tells-yes, tells-no}
+use Rattle.codes.specs.Code.{codeChecks}
+use Rattle.codes.specs.Mending.{Pattern, Carries, Mends, carryChecks, ruleChecks}
+use Rattle.codes.specs.Coding.{Systematic, Product}
+use Rattle.codes.specs.Calls.{MessageFits, Encodes, messageCheck, wordCheck, readableCheck}
+use Rattle.codes.specs.Row.{patternAt, patternCount}
+use Rattle.codes.proofs.Checking.{Code, of-code, left-nothing, generator-pos}
+use Rattle.codes.proofs.Patterns.{mends-remainder, pattern-mends}
+use Rattle.codes.proofs.Rules.{rule-laws}
+use Rattle.families.specs.Families.{generators, pairs}
+use Rattle.families.proofs.Families.{family-shown, family-code, family-long}
+use Rattle.tables.specs.Tables.{Packed, Place, Places, Family, highest}
+use Rattle.tables.proofs.Entering.{remainder-small}
+use Rattle.tables.proofs.Reading.{highest-carried, rule-carried, place-found, place-missing}
+use Rattle.records.specs.Records.{Job, E, P, S, D, Q, RuleFits, WordFits, Calls}
+use Rattle.records.specs.Steps.{Answered, Mending}
+
+-- number 9 where rule or word does not fit, and what the call gives where they do
+pub nine : (job : Job) {n g rule w : ℕ} → (RuleFits job rule → WordFits job n g w → ⊥) → Answered job n g rule w 9 0 0
+nine job f = record { digits = (omega arith, omega arith); refused = λ _. (refl, refl, refl); done = λ a b. absurd (f a b) }
+
+called : (job : Job) {n g rule w number count value : ℕ} → RuleFits job rule → WordFits job n g w → number < 10 → count < 10
+    → Calls job n g rule w number count value → Answered job n g rule w number count value
+called job a b l m k = record { digits = (l, m); refused = λ f. absurd (f a b); done = λ _ _. k }
+
+-- a word is below 2^n exactly if nothing stands from digit n on
+pub tells-below : {A : Type 0} (w n : ℕ) → A → Tells (A × (w < 2 ^ n)) (eqb (w / 2 ^ n) 0)
+tells-below {A} w n a = go (eqb (w / 2 ^ n) 0) refl
+  where
+    go : (b : Bool) → eqb (w / 2 ^ n) 0 ≡ b → Tells (A × (w < 2 ^ n)) b
+    go true e = tells-yes (a, high-zero w n (eqb-true (w / 2 ^ n) 0 e))
+    go false e = tells-no (λ k. eqb-false (w / 2 ^ n) 0 e (div-eq-of-lt (k .1)))
+
+-- ---- a code that passes the checks 1 to 3, and the degree of its generator
+
+module _ {n g r : ℕ} (c : Code n g) (h : Degree g r) where
+  shorter : r < n
+  shorter = rw (degree-unique h (c .generator .degree)) (c .generator .room)
+
+  pos : 0 < g
+  pos = generator-pos (c .generator)
+
+  -- a message that fits is below 2^k, k = n - r
+  pub message-below : (d : ℕ) → d < 2 ^ (n - r) → MessageFits n g d
+  message-below d l = record { k = n - r; long = record { r = r; degree = h; whole = omega (arith, shorter) }; below = l }
+
+  pub message-above : (d : ℕ) → (d < 2 ^ (n - r) → ⊥) → MessageFits n g d → ⊥
+  message-above d z m =
+      let e : m .long .r ≡ r = degree-unique (m .long .degree) h in
+      let k : m .k ≡ n - r = omega (arith, m .long .whole) in
+      z (rw k at (m .below))
+
+  -- moved up by r it stays below 2^63
+  pub message-room : (d : ℕ) → d < 2 ^ (n - r) → d * 2 ^ r < 2 ^ 63
+  message-room d l =
+      let all : n - r + r ≡ n = omega (arith, shorter) in
+      lt-of-lt-of-le (rw all at (shl-lt (n - r) r l)) (pow-mono {j = 63} (c .most))
+
+  -- ---- encoders, and the remainder
+
+  encodes-done : (Word : ℕ → ℕ → ℕ → Type 0) (d : ℕ) {v : ℕ} → MessageFits n g d → Word g d v → Encodes Word n g d 0 v
+  encodes-done Word d m w =
+      settles-yes (codeChecks n g ++ (messageCheck n g d ∷ [])) tt ((c .least, c .most), (c .generator, (c .divides, (m, tt)))) w
+
+  pub answers-systematic : (rule d : ℕ) {s : ℕ} → rule ≡ 0 → d < 2 ^ (n - r) → Remainder (d * 2 ^ r) g s
+      → Answered E n g rule d 0 0 (sum (d * 2 ^ r) s)
+  answers-systematic rule d {s} o z v =
+      let m = message-below d z in
+      called E o m (omega arith) (omega arith)
+      (encodes-done Systematic d m (record { r = r; degree = h; rest = s; remainder = v; word = refl }), refl)
+
+  pub answers-product : (rule d : ℕ) {v : ℕ} → rule ≡ 0 → d < 2 ^ (n - r) → v ≡ times d g → Answered P n g rule d 0 0 v
+  answers-product rule d o z e =
+      let m = message-below d z in called P o m (omega arith) (omega arith) (encodes-done Product d m e, refl)
+
+  pub answers-remainder : (rule w : ℕ) {s : ℕ} → rule ≡ 0 → w < 2 ^ n → Remainder w g s → Answered S n g rule w 0 0 s
+  answers-remainder rule w o l v =
+      called S o l (omega arith) (omega arith)
+      (settles-yes (codeChecks n g ++ (wordCheck n w ∷ [])) tt ((c .least, c .most), (c .generator, (c .divides, (l, tt)))) v, refl)
+
+  -- ---- decoders: the message of the mended word
+
+  -- its first k cells
+  pub answers-first : (rule w : ℕ) {number count code : ℕ} → w < 2 ^ n → number < 10 → count < 10 → Mending n g rule w number count code
+      → Answered D n g rule w number count (code / 2 ^ r)
+  answers-first rule w {code = code} z l m s =
+      called D tt z l m
+      (record {
+        ordered = s .ordered;
+        verdict = s .verdict;
+        done = λ e. record { code = code; mends = s .done e .0; message = record { r = r; degree = h; cells = refl }; differ = s .done e .1 };
+        refused = λ b. (ap (λ (x : ℕ). x / 2 ^ r) (s .refused b .0) ∙ zero-div (2 ^ r), s .refused b .1);
+      })
+
+  -- its quotient: a code word leaves nothing, and 0 has none
+  quotient-word : {v e : ℕ} → Packed g r v e → Divides g v → v ≡ times (e / 2 ^ r) g
+  quotient-word {v} {e} a d = a .divided .whole ∙ ap (sum (times (e / 2 ^ r) g)) (left-nothing (a .divided) pos d) ∙ sum-zero (times (e / 2 ^ r) g)
+
+  quotient-none : {v e : ℕ} → Packed g r v e → v ≡ 0 → e / 2 ^ r ≡ 0
+  quotient-none a z = quotient-unique (rw z at (a .divided)) (divided-lower (lower-zero pos))
+
+  pub answers-quotient : (rule w e : ℕ) {number count code : ℕ} → w < 2 ^ n → number < 10 → count < 10 → Mending n g rule w number count code
+      → Packed g r code e → Answered Q n g rule w number count (e / 2 ^ r)
+  answers-quotient rule w e {code = code} z l m s a =
+      called Q tt z l m
+      (record {
+        ordered = s .ordered;
+        verdict = s .verdict;
+        done = λ o. record { code = code; mends = s .done o .0; message = quotient-word a (s .done o .0 .code .divides); differ = s .done o .1 };
+        refused = λ b. (quotient-none a (s .refused b .0), s .refused b .1);
+      })
+
+-- ---- mending
+
+-- a number that is refused settles count and word
+refusal : (n g rule w number : ℕ) → Verdict (ruleChecks n g rule ++ (wordCheck n w ∷ readableCheck n g rule w ∷ [])) number → (number ≡ 0 → ⊥)
+    → Mending n g rule w number 0 0
+refusal n g rule w number v b = settles-no (ruleChecks n g rule ++ (wordCheck n w ∷ readableCheck n g rule w ∷ [])) tt b v (refl, refl)
+
+module _ {n g : ℕ} (c : Code n g) (rule w : ℕ) where
+  after : (number : ℕ) → Verdict (carryChecks n g rule ++ (wordCheck n w ∷ readableCheck n g rule w ∷ [])) number
+      → Verdict (ruleChecks n g rule ++ (wordCheck n w ∷ readableCheck n g rule w ∷ [])) number
+  after number = verdict-on (codeChecks n g) (carryChecks n g rule ++ (wordCheck n w ∷ readableCheck n g rule w ∷ [])) number (of-code c)
+
+  pub mending-unknown : 2 < rule → Mending n g rule w 4 0 0
+  mending-unknown l = refusal n g rule w 4 (after 4 (inl ((λ m. omega arith), refl))) (λ e. omega arith)
+
+  pub mending-uncarried : rule ≤ 2 → (Carries (Pattern n rule) g → ⊥) → Mending n g rule w 5 0 0
+  mending-uncarried l f = refusal n g rule w 5 (after 5 (inr (l, inl (f, refl)))) (λ e. omega arith)
+
+  module _ (l : rule ≤ 2) (carried : Carries (Pattern n rule) g) (below : w < 2 ^ n) where
+    -- no pattern has the word's remainder
+    pub mending-none : {s : ℕ} → Remainder w g s → ((p : ℕ) → Pattern n rule p → Remainder p g s → ⊥) → Mending n g rule w 8 0 0
+    mending-none v none =
+        refusal n g rule w 8
+        (after 8 (inr (l, inr (carried, inr (below, inl ((λ m. none (sum w (m .0)) (m .1 .pattern) (mends-remainder (m .1) v)), refl))))))
+        (λ e. omega arith)
+
+    -- one has
+    pub mending-found : {p s count : ℕ} → Remainder w g s → Pattern n rule p → Remainder p g s → count ≡ ones p → Mending n g rule w 0 count (sum w p)
+    mending-found {p} v q u e =
+        let m : Mends (Pattern n rule) n g w (sum w p) = pattern-mends (rule-laws rule (c .least) carried) (c .generator .odd) below q v u in
+        settles-yes (ruleChecks n g rule ++ (wordCheck n w ∷ readableCheck n g rule w ∷ [])) tt
+        ((c .least, c .most), (c .generator, (c .divides, (l, (carried, (below, ((sum w p, m), tt))))))) (m, rw sum-back e)
+
+-- ---- the families
+
+module _ {f n r : ℕ} (h : Family f n r) where
+  pub checked : Code n (getD generators f 0)
+  checked = rw (h .length) (family-code f (h .row))
+
+  -- a rule above the highest is not carried
+  pub uncarried : {rule : ℕ} → rule ≤ 2 → highest f < rule → Carries (Pattern n rule) (getD generators f 0) → ⊥
+  uncarried {rule} l b = go (getD pairs f false) refl b
+    where
+      go : (t : Bool) → getD pairs f false ≡ t → cond t 2 1 < rule → Carries (Pattern n rule) (getD generators f 0) → ⊥
+      go true e b k = omega arith
+      go false e b k =
+          let two : rule ≡ 2 = omega arith in
+          family-shown f (h .row) .pairs .no e (rw (h .length, two) at k)
+
+  module _ (rule w : ℕ) (below : w < 2 ^ n) (l : rule ≤ highest f) where
+    known : rule ≤ 2
+    known = omega (arith, highest-carried f (h .row) .1)
+
+    carried : Carries (Pattern n rule) (getD generators f 0)
+    carried = rw (h .length) (rule-carried f rule (h .row) l)
+
+    -- the entry of the word's remainder
+    module _ {t : List ℕ} (p : Places t) {s : ℕ} (v : Remainder w (getD generators f 0) s) where
+      here : Place n (getD generators f 0) (patternCount n (highest f)) s (getD t (f * 2048 + s) 0)
+      here = rw (h .length) (p .at f (h .row) s (remainder-small h v))
+
+      long : 2 < n
+      long = rw (h .length) (family-long f (h .row))
+
+      top : (highest f ≤ 2) × Carries (Pattern n (highest f)) (getD generators f 0)
+      top = let k = highest-carried f (h .row) in (k .1, rw (h .length) (k .2))
+
+      pub entry-none : n * rule < getD t (f * 2048 + s) 0 → Mending n (getD generators f 0) rule w 8 0 0
+      entry-none b = mending-none checked rule w known carried below v (place-missing long (checked .most) (top .0) (top .1) rule l here b)
+
+      pub entry-found : {count : ℕ} → getD t (f * 2048 + s) 0 ≤ n * rule → count ≡ ones (patternAt n (getD t (f * 2048 + s) 0))
+          → Mending n (getD generators f 0) rule w 0 count (sum w (patternAt n (getD t (f * 2048 + s) 0)))
+      entry-found b e =
+          let k = place-found long (checked .most) (top .0) (top .1) rule l here b in
+          mending-found checked rule w known carried below v (k .0) (k .1) e
+
+      -- it is a place of the row
+      pub entry-within : getD t (f * 2048 + s) 0 ≤ n * rule → getD t (f * 2048 + s) 0 ≤ 2 * n
+      entry-within b = omega (arith, mul-le-mul (let k : n ≤ n = omega arith in k) known)

@@ -1,0 +1,42 @@
+-- What the functions on the way from a record to its line promise each other. Assumes nothing.
+use mathlib.Core.Path.{_≡_}
+use mathlib.Core.List.{List, [], _∷_, _++_}
+use Prim.Native.Nat.{ℕ, _≤_, _<_}
+use lib.Count.{ones}
+use lib.ListN.{length}
+use Rattle.poly.specs.Poly.{sum}
+use Rattle.verdict.specs.Verdict.{Settles}
+use Rattle.codes.specs.Mending.{Pattern, Mends, ruleChecks}
+use Rattle.codes.specs.Calls.{wordCheck, readableCheck}
+use Rattle.text.specs.Text.{Puts}
+use Rattle.records.specs.Records.{Record, Job, RuleFits, WordFits, Calls, Gives, recordOf, lineOf}
+
+-- The job's answer for a family: 9 where the rule byte or the word does not fit. Number and count are single digits.
+pub record Answered (job : Job) (n g rule w number count value : ℕ) : Type 0 where
+  pub digits : (number < 10) × (count < 10)
+  pub refused : (RuleFits job rule → WordFits job n g w → ⊥) → (number ≡ 9) × (count ≡ 0) × (value ≡ 0)
+  pub done : RuleFits job rule → WordFits job n g w → Calls job n g rule w number count value
+
+-- What both decoders begin with: the code word that differs from w in a pattern, and the number of cells in it.
+abbrev pub Mending : ℕ → ℕ → ℕ → ℕ → ℕ → ℕ → ℕ → Type 0
+Mending n g rule w number count code =
+    Settles (ruleChecks n g rule ++ (wordCheck n w ∷ readableCheck n g rule w ∷ [])) number
+    (Mends (Pattern n rule) n g w code × (count ≡ ones (sum w code))) ((code ≡ 0) × (count ≡ 0))
+
+-- A record by its fields.
+abbrev pub fields : ℕ → ℕ → ℕ → ℕ → ℕ → ℕ → Record
+fields letter family rule third station word =
+    record { letter = letter; family = family; rule = rule; third = third; station = station; word = word }
+
+-- A line of at most 64 bytes, put at a place.
+pub record PutsLine (text out : List ℕ) (at : ℕ) (out′ : List ℕ) (place : ℕ) : Type 0 where
+  pub short : length text ≤ 64
+  pub puts : Puts text out at out′ place
+
+-- The line of a record.
+pub record Line (bytes out : List ℕ) (at : ℕ) (out′ : List ℕ) (place : ℕ) : Type 0 where
+  pub number : ℕ
+  pub count : ℕ
+  pub value : ℕ
+  pub gives : Gives (recordOf bytes) number count value
+  pub line : PutsLine (lineOf (recordOf bytes) number count value) out at out′ place
