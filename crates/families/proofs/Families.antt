@@ -170,3 +170,9 @@ generator-of-settled f a b = a ∙ sym b
 
 pub pairs-of-settled : (f : ℕ) {a b : Bool} → a ≡ pairsOf f → b ≡ pairsOf f → a ≡ b
 pairs-of-settled f a b = a ∙ sym b
+
+pub all-lengths-settled : {a b : List ℕ} → a ≡ lengths → b ≡ lengths → a ≡ b
+all-lengths-settled a b = a ∙ sym b
+
+pub all-generators-settled : {a b : List ℕ} → a ≡ generators → b ≡ generators → a ≡ b
+all-generators-settled a b = a ∙ sym b

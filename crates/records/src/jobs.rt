@@ -6,7 +6,7 @@ ghost use lib.ListN.{getD};
 ghost use Rattle.poly.specs.Poly.{times, Degree, Remainder};
 ghost use Rattle.verdict.specs.Verdict.{Tells};
 ghost use Rattle.codes.specs.Row.{patternAt};
-ghost use Rattle.families.specs.Families.{generators};
+ghost use Rattle.families.specs.Families.{lengths, generators};
 ghost use Rattle.tables.specs.Tables.{Packed, Parts, Places, Family, highest as highestOf};
 ghost use Rattle.records.specs.Records.{E, P, S, D, Q, Gives};
 ghost use Rattle.records.specs.Steps.{Answered, Mending, fields};
@@ -17,10 +17,15 @@ pub(crate) struct Outcome {
     pub value: u64,
 }
 
-pub(crate) struct Mended {
-    pub number: u64,
-    pub count: u64,
-    pub code: u64,
+// A refusal: with any number but 0 the other results are 0.
+fn refused(number: u64) -> Outcome
+    ensures { λ a. ⌜ (a .number ≡ number) × (a .count ≡ 0) × (a .value ≡ 0) ⌝ }
+{
+    Outcome {
+        number,
+        count: 0,
+        value: 0,
+    }
 }
 
 pub(crate) fn wide(x: u8) -> u64
@@ -114,11 +119,7 @@ fn systematic(parts: &[u64; 3072], f: usize, n: usize, r: usize, rule: u64, d: u
     ensures { λ a. ⌜ Answered E n (getD generators f 0) rule d (a .number) (a .count) (a .value) ⌝ }
 {
     if !allowed(rule, n - r, d) {
-        return Outcome {
-            number: 9,
-            count: 0,
-            value: 0,
-        };
+        return refused(9);
     }
     let x = d << r;
     Outcome {
@@ -134,11 +135,7 @@ fn times(f: usize, g: u64, n: usize, r: usize, rule: u64, d: u64) -> Outcome
     ensures { λ a. ⌜ Answered P n g rule d (a .number) (a .count) (a .value) ⌝ }
 {
     if !allowed(rule, n - r, d) {
-        return Outcome {
-            number: 9,
-            count: 0,
-            value: 0,
-        };
+        return refused(9);
     }
     Outcome {
         number: 0,
@@ -153,11 +150,7 @@ fn remainder(parts: &[u64; 3072], f: usize, n: usize, r: usize, rule: u64, w: u6
     ensures { λ a. ⌜ Answered S n (getD generators f 0) rule w (a .number) (a .count) (a .value) ⌝ }
 {
     if !allowed(rule, n, w) {
-        return Outcome {
-            number: 9,
-            count: 0,
-            value: 0,
-        };
+        return refused(9);
     }
     Outcome {
         number: 0,
@@ -186,38 +179,26 @@ fn mend(
     r: usize,
     rule: u64,
     w: u64,
-) -> Mended
+) -> Outcome
     requires { ⌜ Parts (now parts) × Places (now places) × Family f n r × (w < 2 ^ n) ⌝ }
-    ensures mends { λ m. ⌜ Mending n (getD generators f 0) rule w (m .number) (m .count) (m .code) ⌝ }
+    ensures mends { λ m. ⌜ Mending n (getD generators f 0) rule w (m .number) (m .count) (m .value) ⌝ }
     ensures digits { λ m. ⌜ (m .number < 10) × (m .count < 10) ⌝ }
 {
     if 2 < rule {
-        return Mended {
-            number: 4,
-            count: 0,
-            code: 0,
-        };
+        return refused(4);
     }
     if highest(f) < rule {
-        return Mended {
-            number: 5,
-            count: 0,
-            code: 0,
-        };
+        return refused(5);
     }
     let s = rest(parts, f, n, r, w) as usize;
     let k = wide(places[f * 2048 + s]) as usize;
     if n * (rule as usize) < k {
-        return Mended {
-            number: 8,
-            count: 0,
-            code: 0,
-        };
+        return refused(8);
     }
-    Mended {
+    Outcome {
         number: 0,
         count: cells(n, k),
-        code: w ^ pattern(n, k),
+        value: w ^ pattern(n, k),
     }
 }
 
@@ -235,17 +216,13 @@ fn first(
     ensures { λ a. ⌜ Answered D n (getD generators f 0) rule w (a .number) (a .count) (a .value) ⌝ }
 {
     if w >> n != 0 {
-        return Outcome {
-            number: 9,
-            count: 0,
-            value: 0,
-        };
+        return refused(9);
     }
     let m = mend(parts, places, f, n, r, rule, w);
     Outcome {
         number: m.number,
         count: m.count,
-        value: m.code >> r,
+        value: m.value >> r,
     }
 }
 
@@ -263,22 +240,20 @@ fn quotient(
     ensures { λ a. ⌜ Answered Q n (getD generators f 0) rule w (a .number) (a .count) (a .value) ⌝ }
 {
     if w >> n != 0 {
-        return Outcome {
-            number: 9,
-            count: 0,
-            value: 0,
-        };
+        return refused(9);
     }
     let m = mend(parts, places, f, n, r, rule, w);
     Outcome {
         number: m.number,
         count: m.count,
-        value: divide(parts, f, m.code) >> r,
+        value: divide(parts, f, m.value) >> r,
     }
 }
 
 // What a record gives. Number 9 comes before every other.
 pub(crate) fn answer(
+    ns: &[usize; 12],
+    gs: &[u64; 12],
     parts: &[u64; 3072],
     places: &[u8; 24576],
     letter: u8,
@@ -287,34 +262,22 @@ pub(crate) fn answer(
     third: u64,
     word: u64,
 ) -> Outcome
-    requires { ⌜ Parts (now parts) × Places (now places) ⌝ }
+    requires { ⌜ (now ns ≡ lengths) × (now gs ≡ generators) × Parts (now parts) × Places (now places) ⌝ }
     ensures digits { λ a. ⌜ (a .number < 10) × (a .count < 10) ⌝ }
     ensures gives { λ a. ⌜ ((station : ℕ) → Gives (fields letter family rule third station word) (a .number) (a .count) (a .value)) ⌝ }
 {
     if third != 0 {
-        return Outcome {
-            number: 9,
-            count: 0,
-            value: 0,
-        };
+        return refused(9);
     }
     if family == 0 {
-        return Outcome {
-            number: 9,
-            count: 0,
-            value: 0,
-        };
+        return refused(9);
     }
     if 12 < family {
-        return Outcome {
-            number: 9,
-            count: 0,
-            value: 0,
-        };
+        return refused(9);
     }
     let f = (family - 1) as usize;
-    let n = families::length_of(family);
-    let g = families::generator_of(family);
+    let n = ns[f];
+    let g = gs[f];
     let r = poly::degree_of(g);
     if letter == b'E' {
         return systematic(parts, f, n, r, rule, word);
@@ -331,9 +294,5 @@ pub(crate) fn answer(
     if letter == b'Q' {
         return quotient(parts, places, f, n, r, rule, word);
     }
-    Outcome {
-        number: 9,
-        count: 0,
-        value: 0,
-    }
+    refused(9)
 }

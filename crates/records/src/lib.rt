@@ -4,6 +4,7 @@ mod jobs;
 ghost use mathlib.Core.Path.{_≡_};
 ghost use Prim.Native.Nat.{_+_, _≤_, _<_};
 ghost use lib.ListN.{length};
+ghost use Rattle.families.specs.Families.{lengths, generators};
 ghost use Rattle.tables.specs.Tables.{Parts, Places};
 ghost use Rattle.records.specs.Records.{bigEndian, shown as shownOf, lineOf, shortOf, Printed};
 ghost use Rattle.records.specs.Steps.{fields, PutsLine, Line};
@@ -57,7 +58,7 @@ fn put_fields(
     requires { ⌜ (number < 10) × (count < 10) × (at + 64 ≤ length (now out)) ⌝ }
     ensures { λ e. ⌜ PutsLine (lineOf (fields letter 0 0 0 station 0) number count value) (now (out .entry)) at (now (out .exit)) e ⌝ }
 {
-    let a = text::put_number(out, at, station);
+    let a = tables::put_number(out, at, station);
     let middle = [
         b' ',
         shown(letter),
@@ -68,25 +69,29 @@ fn put_fields(
         b' ',
     ];
     let b = text::put_bytes(out, a, &middle);
-    let c = text::put_number(out, b, value);
+    let c = tables::put_number(out, b, value);
     text::put_bytes(out, c, b"\n")
 }
 
 // The line of a record.
 fn put_line(
+    ns: &[usize; 12],
+    gs: &[u64; 12],
     parts: &[u64; 3072],
     places: &[u8; 24576],
     bytes: &[u8],
     out: &mut [u8],
     at: usize,
 ) -> usize
-    requires { ⌜ Parts (now parts) × Places (now places) × (length (now bytes) ≡ 16) × (at + 64 ≤ length (now out)) ⌝ }
+    requires { ⌜ (now ns ≡ lengths) × (now gs ≡ generators) × Parts (now parts) × Places (now places) × (length (now bytes) ≡ 16) × (at + 64 ≤ length (now out)) ⌝ }
     ensures { λ e. ⌜ Line (now (bytes .entry)) (now (out .entry)) at (now (out .exit)) e ⌝ }
 {
     let letter = bytes[0];
     let station = big_endian(&bytes[4..8]);
     let word = big_endian(&bytes[8..16]);
     let a = jobs::answer(
+        ns,
+        gs,
         parts,
         places,
         letter,
@@ -115,13 +120,15 @@ pub fn lines(records: &[u8], out: &mut [u8]) -> usize
     if out.len() / 64 <= records.len() / 16 {
         return 0;
     }
+    let ns = families::all_lengths();
+    let gs = families::all_generators();
     let parts = tables::parts();
     let places = tables::places();
     let mut at: usize = 0;
     let mut i: usize = 0;
     while 16 <= records.len() - i {
         let e = i + 16;
-        at = put_line(&parts, &places, &records[i..e], out, at);
+        at = put_line(&ns, &gs, &parts, &places, &records[i..e], out, at);
         i = e;
     }
     if i < records.len() {

@@ -12,20 +12,29 @@ use Rattle.records.proofs.Answering.{mending-unknown, mending-uncarried
 use Rattle.records.proofs.jobs.mend.Statement.{statement}
 use Rattle.records.proofs.jobs.mend.Tie as tie
 
+refused-requires : tie.Need-refused-requires
+refused-requires c κs = search needs
+
 returns : tie.Need-returns
 returns c =
-    let s = c .before in
-    (mending-unknown (checked (s .pre .2)) (s .args .rule) (s .args .w) (c .if1 .taken), (omega arith, omega arith))
+    let s = c .before .before in
+    rw (c .refused .ensures .0, c .refused .ensures .1, c .refused .ensures .2)
+    (mending-unknown (checked (s .pre .2)) (s .args .rule) (s .args .w) (c .before .if1 .taken), (omega arith, omega arith))
 
 highest-requires : tie.Need-highest-requires
 highest-requires c κs = search needs
 
+refused-requires-2 : tie.Need-refused-requires-2
+refused-requires-2 c κs = search needs
+
 returns-2 : tie.Need-returns-2
 returns-2 c =
-    let e = c .before .before in
-    let s = e .before in (
+    let t = c .before in
+    let e = t .before .before in
+    let s = e .before in
+    rw (c .refused2 .ensures .0, c .refused2 .ensures .1, c .refused2 .ensures .2) (
       mending-uncarried (checked (s .pre .2)) (s .args .rule) (s .args .w) (e .if1 .left)
-          (uncarried (s .pre .2) (e .if1 .left) (rw (c .before .highest .ensures) at (c .if2 .taken))),
+          (uncarried (s .pre .2) (e .if1 .left) (rw (t .before .highest .ensures) at (t .if2 .taken))),
       (omega arith, omega arith),
     )
 
@@ -54,11 +63,16 @@ mul-if3 c =
     let s = d .before .before .before .before in
     omega (arith, mul-le-mul (family-cells (s .pre .2) .1) (d .before .before .before .if1 .left))
 
+refused-requires-3 : tie.Need-refused-requires-3
+refused-requires-3 c κs = search needs
+
 returns-3 : tie.Need-returns-3
 returns-3 c =
-    let d = c .before .before .before in
-    let s = d .before .before .before .before in (
-      entry-none (s .pre .2) (s .args .rule) (s .args .w) (s .pre .3) (low (d .before)) (s .pre .1) (d .rest .ensures) (rw (c .before .wide .ensures) at (c .if3 .taken)),
+    let t = c .before in
+    let d = t .before .before .before in
+    let s = d .before .before .before .before in
+    rw (c .refused3 .ensures .0, c .refused3 .ensures .1, c .refused3 .ensures .2) (
+      entry-none (s .pre .2) (s .args .rule) (s .args .w) (s .pre .3) (low (d .before)) (s .pre .1) (d .rest .ensures) (rw (t .before .wide .ensures) at (t .if3 .taken)),
       (omega arith, omega arith),
     )
 
@@ -94,8 +108,10 @@ pub mend-spec : {M : Type 1} → statement M
 mend-spec =
     tie.close
     (tie.spec
+    refused-requires
     returns
     highest-requires
+    refused-requires-2
     returns-2
     rest-requires
     mul-wide
@@ -103,6 +119,7 @@ mend-spec =
     element-copy-out-wide
     wide-requires
     mul-if3
+    refused-requires-3
     returns-3
     cells-requires
     pattern-requires

@@ -12,8 +12,11 @@ use Rattle.records.proofs.jobs.quotient.Tie as tie
 shr-if1 : tie.Need-shr-if1
 shr-if1 c = omega (arith, family-cells (c .pre .2) .1)
 
+refused-requires : tie.Need-refused-requires
+refused-requires c κs = search needs
+
 returns : tie.Need-returns
-returns c = nine Q λ o l. c .if1 .taken (div-eq-of-lt l)
+returns c = rw (c .refused .ensures .0, c .refused .ensures .1, c .refused .ensures .2) (nine Q λ o l. c .before .if1 .taken (div-eq-of-lt l))
 
 mend-requires : tie.Need-mend-requires
 mend-requires c κs =
@@ -37,4 +40,5 @@ returns-2 c =
 
 pub quotient-spec : {M : Type 1} → statement M
 quotient-spec =
-    tie.close (tie.spec shr-if1 returns mend-requires divide-requires shr-t12 returns-2)
+    tie.close
+    (tie.spec shr-if1 refused-requires returns mend-requires divide-requires shr-t12 returns-2)

@@ -10,10 +10,14 @@ use Rattle.records.proofs.jobs.remainder.Tie as tie
 allowed-requires : tie.Need-allowed-requires
 allowed-requires c κs = family-cells (c .pre .1) .1
 
+refused-requires : tie.Need-refused-requires
+refused-requires c κs = search needs
+
 returns : tie.Need-returns
 returns c =
-    let no = c .before .allowed .ensures .no (not-true _ (c .if1 .taken)) in
-    nine S λ o l. no (o, l)
+    let t = c .before in
+    let no = t .before .allowed .ensures .no (not-true _ (t .if1 .taken)) in
+    rw (c .refused .ensures .0, c .refused .ensures .1, c .refused .ensures .2) (nine S λ o l. no (o, l))
 
 rest-requires : tie.Need-rest-requires
 rest-requires c κs = search needs
@@ -26,4 +30,5 @@ returns-2 c =
     answers-remainder (checked (s .pre .1)) (s .pre .1 .degree) (s .args .rule) (s .args .w) (t .0) (t .1) (c .rest .ensures)
 
 pub remainder-spec : {M : Type 1} → statement M
-remainder-spec = tie.close (tie.spec allowed-requires returns rest-requires returns-2)
+remainder-spec =
+    tie.close (tie.spec allowed-requires refused-requires returns rest-requires returns-2)

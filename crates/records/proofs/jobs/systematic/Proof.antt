@@ -17,11 +17,16 @@ sub-allowed c = omega (arith, family-bounds (c .pre .1) .2)
 allowed-requires : tie.Need-allowed-requires
 allowed-requires c κs = omega (arith, family-cells (c .pre .1) .1)
 
+refused-requires : tie.Need-refused-requires
+refused-requires c κs = search needs
+
 returns : tie.Need-returns
 returns c =
-    let s = c .before .before in
-    let no = c .before .allowed .ensures .no (not-true _ (c .if1 .taken)) in
-    nine E λ o m. message-above (checked (s .pre .1)) (s .pre .1 .degree) (s .args .d) (λ l. no (o, l)) m
+    let t = c .before in
+    let s = t .before .before in
+    let no = t .before .allowed .ensures .no (not-true _ (t .if1 .taken)) in
+    rw (c .refused .ensures .0, c .refused .ensures .1, c .refused .ensures .2)
+    (nine E λ o m. message-above (checked (s .pre .1)) (s .pre .1 .degree) (s .args .d) (λ l. no (o, l)) m)
 
 shl-x : tie.Need-shl-x
 shl-x c = omega (arith, family-bounds (c .before .before .pre .1) .1)
@@ -44,4 +49,5 @@ returns-2 c =
 
 pub systematic-spec : {M : Type 1} → statement M
 systematic-spec =
-    tie.close (tie.spec sub-allowed allowed-requires returns shl-x rest-requires returns-2)
+    tie.close
+    (tie.spec sub-allowed allowed-requires refused-requires returns shl-x rest-requires returns-2)

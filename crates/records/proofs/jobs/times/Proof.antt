@@ -2,6 +2,7 @@
 use mathlib.Core.Path.{_≡_}
 use Prim.Native.Nat.{_-_, _^_, _<_}
 use native.Mathlib.Omega.{arith}
+use borrow.Author.Needs.{needs}
 use borrow.Author.Tests.{not-true, not-false}
 use Rattle.poly.proofs.Degree.{degree-unique}
 use Rattle.families.proofs.Families.{family-pos, family-small}
@@ -17,11 +18,16 @@ sub-allowed c = omega (arith, family-bounds (c .pre .0) .2)
 allowed-requires : tie.Need-allowed-requires
 allowed-requires c κs = omega (arith, family-cells (c .pre .0) .1)
 
+refused-requires : tie.Need-refused-requires
+refused-requires c κs = search needs
+
 returns : tie.Need-returns
 returns c =
-    let s = c .before .before in
-    let no = c .before .allowed .ensures .no (not-true _ (c .if1 .taken)) in
-    rw (s .pre .1) (nine P λ o m. message-above (checked (s .pre .0)) (s .pre .0 .degree) (s .args .d) (λ l. no (o, l)) m)
+    let t = c .before in
+    let s = t .before .before in
+    let no = t .before .allowed .ensures .no (not-true _ (t .if1 .taken)) in
+    rw (c .refused .ensures .0, c .refused .ensures .1, c .refused .ensures .2, s .pre .1)
+    (nine P λ o m. message-above (checked (s .pre .0)) (s .pre .0 .degree) (s .args .d) (λ l. no (o, l)) m)
 
 -- the message fits
 fine : (c : tie.Else1) → (c .before .before .args .rule ≡ 0) × (c .before .before .args .d < 2 ^ (c .before .before .args .n - c .before .before .args .r))
@@ -46,4 +52,6 @@ returns-2 c =
     rw (s .pre .1) (answers-product (checked h) (h .degree) (s .args .rule) (s .args .d) (t .0) (t .1) (rw (s .pre .1) at e))
 
 pub times-spec : {M : Type 1} → statement M
-times-spec = tie.close (tie.spec sub-allowed allowed-requires returns product-requires returns-2)
+times-spec =
+    tie.close
+    (tie.spec sub-allowed allowed-requires refused-requires returns product-requires returns-2)
