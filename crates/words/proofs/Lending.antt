@@ -18,11 +18,11 @@ use Rattle.verdict.specs.Verdict.{Check, Verdict, Passed, Where}
 use Rattle.verdict.proofs.Verdict.{verdict-on, verdict-stop, passed-on, verdict-passed, settles-yes, settles-no}
 use Rattle.codes.specs.Code.{codeChecks, MessageLength, CodeWord}
 use Rattle.codes.specs.Mending.{Pattern, Readable, ruleChecks}
-use Rattle.codes.specs.Coding.{Systematic, Decoded}
+use Rattle.codes.specs.Coding.{Systematic, Product, Decoded}
 use Rattle.codes.specs.Calls.{MessageFits, messageCheck, wordCheck, readableCheck, slicesCheck, Encodes, Decodes, EncodesCells, DecodesCells, Written}
 use Rattle.codes.proofs.Checking.{Code, Allowed, code-of, of-code, allowed-of, of-allowed, generator-degree, generator-r, message-room, message-length}
-use Rattle.codes.proofs.Coding.{systematic-first, first-fits, product-fits}
-use Rattle.words.specs.Within.{says}
+use Rattle.codes.proofs.Coding.{systematic-first, product-word, first-fits, product-fits}
+use Rattle.words.specs.Within.{word-of, message-of}
 use Rattle.codes.proofs.Cutting.{first-number, first-passed}
 
 -- ---- cells that stand for a number
@@ -45,7 +45,7 @@ written-tail {n} {g} {c} message h l k =
     }
 
 -- a code word's message fits k cells, by either rule
-pub says-fits : (way : Bool) {n g c d k : ℕ} → CodeWord n g c → MessageLength n g k → says way g d c → d < 2 ^ k
+pub says-fits : (way : Bool) {n g c d k : ℕ} → CodeWord n g c → MessageLength n g k → message-of way g d c → d < 2 ^ k
 says-fits true p l a = product-fits p l a
 says-fits false p l a = first-fits p l a
 
@@ -66,12 +66,12 @@ module _ {n g r : ℕ} (code : Code n g) (w : Where (0 < g) (Degree g r) (r ≡ 
 
 -- ---- encoders
 
-module _ (Word : ℕ → ℕ → ℕ → Type 0) {n g p m c : ℕ} (message word : List ℕ) (x : Encodes Word n g p m c) where
+module _ (way : Bool) {n g p m c : ℕ} (message word : List ℕ) (x : Encodes (word-of way) n g p m c) where
   abbrev behind : List Check
   behind = slicesCheck n g message word ∷ cellsCheck message ∷ []
 
   -- a number 1 to 3
-  pub encode-first : (0 < m) × (m < 6) → EncodesCells Word n g message word word m
+  pub encode-first : (0 < m) × (m < 6) → EncodesCells (word-of way) n g message word word m
   encode-first l =
       settles-no (codeChecks n g ++ behind) tt (λ e. omega (arith, e))
       (first-number (codeChecks n g) (messageCheck n g p ∷ []) behind m tt (x .verdict) l) refl
@@ -80,39 +80,47 @@ module _ (Word : ℕ → ℕ → ℕ → Type 0) {n g p m c : ℕ} (message word
   encode-code f = code-of (first-passed (codeChecks n g) (messageCheck n g p ∷ []) tt (x .verdict) f .0)
 
   -- a number of the cells
-  pub encode-lent : {l : ℕ} → Code n g → (l ≡ 0 → ⊥) → Verdict behind l → EncodesCells Word n g message word word l
+  pub encode-lent : {l : ℕ} → Code n g → (l ≡ 0 → ⊥) → Verdict behind l → EncodesCells (word-of way) n g message word word l
   encode-lent {l} k f v = settles-no (codeChecks n g ++ behind) tt f (verdict-on (codeChecks n g) behind l (of-code k) v) refl
 
   -- the cells are right, so the message is theirs
-  module _ {l : ℕ} (k : Code n g) (v : Verdict behind l) (e : l ≡ 0) (w : Where ((length message ≤ 63) × Cells message) (p ≡ poly message) (p ≡ 0)) where
-    lent : Passed behind
-    lent = verdict-passed behind tt v e
+  module _ {l : ℕ} (f : (0 < m) × (m < 6) → ⊥) (v : Verdict behind l) (e : l ≡ 0) (w : Where ((length message ≤ 63) × Cells message) (p ≡ poly message) (p ≡ 0)) where
+    encode-right : Passed behind
+    encode-right = verdict-passed behind tt v e
 
-    pub encode-length : MessageLength n g (length message)
-    encode-length = lent .0 .0
+    encode-length : MessageLength n g (length message)
+    encode-length = encode-right .0 .0
 
-    pub encode-long : length word ≡ n
-    encode-long = lent .0 .1
+    encode-long : length word ≡ n
+    encode-long = encode-right .0 .1
 
-    pub encode-cells : Cells message
-    encode-cells = lent .1 .0
+    pub encode-room : length message ≤ length word
+    encode-room = omega (arith, encode-length .whole, encode-long)
 
-    stands : p ≡ poly message
-    stands = w .holds (omega (arith, k .most, encode-length .whole), encode-cells)
+    encode-stands : p ≡ poly message
+    encode-stands = w .holds (omega (arith, encode-code f .most, encode-length .whole), encode-right .1 .0)
 
-    pub encode-fits : MessageFits n g (poly message)
-    encode-fits = record { k = length message; long = encode-length; below = poly-lt message encode-cells }
+    encode-fits : MessageFits n g (poly message)
+    encode-fits = record { k = length message; long = encode-length; below = poly-lt message (encode-right .1 .0) }
 
     -- the call on numbers was done
-    pub encode-word : ((0 < m) × (m < 6) → ⊥) → Word g (poly message) c
-    encode-word f = rw stands at (x .done (done (first-passed (codeChecks n g) (messageCheck n g p ∷ []) tt (x .verdict) f .1)))
+    encode-word : word-of way g (poly message) c
+    encode-word = rw encode-stands at (x .done (done (first-passed (codeChecks n g) (messageCheck n g p ∷ []) tt (x .verdict) f .1)))
       where
         done : Verdict (messageCheck n g p ∷ []) m → m ≡ 0
-        done (inl a) = absurd (a .0 (rw stands encode-fits))
+        done (inl a) = absurd (a .0 (rw encode-stands encode-fits))
         done (inr a) = a .1
 
-    pub encode-done : {word′ : List ℕ} → Word g (poly message) c → Written n word′ c → EncodesCells Word n g message word word′ 0
-    encode-done y z = settles-yes (codeChecks n g ++ behind) tt (passed-on (codeChecks n g) behind (of-code k) lent) (c, y, z)
+    encode-done : {word′ : List ℕ} → Written n word′ c → EncodesCells (word-of way) n g message word word′ 0
+    encode-done z = settles-yes (codeChecks n g ++ behind) tt (passed-on (codeChecks n g) behind (of-code (encode-code f)) encode-right) (c, encode-word, z)
+
+    pub product-done : way ≡ true → EncodesCells (word-of way) n g message word (cells (length word) c) 0
+    product-done t =
+        let y : Product g (poly message) c = rw t at encode-word in
+        encode-done (rw encode-long (written-cells n c (rw y (product-word encode-fits .below))))
+
+    pub systematic-done : way ≡ false → EncodesCells (word-of way) n g message word (message ++ cells (length word - length message) c) 0
+    systematic-done t = encode-done (rw encode-long (written-tail message (rw t at encode-word) encode-length (encode-right .1 .0)))
 
 -- ---- decoders
 

@@ -7,9 +7,9 @@ ghost use Rattle.poly.specs.Cells.{cells};
 ghost use Rattle.cells.specs.Lent.{cellsCheck};
 ghost use Rattle.verdict.specs.Verdict.{Verdict};
 ghost use Rattle.codes.specs.Coding.{Systematic, Product, First};
-ghost use Rattle.codes.specs.Calls.{Decodes, EncodesCells, LeavesCells, DecodesCells};
+ghost use Rattle.codes.specs.Calls.{Encodes, Decodes, EncodesCells, LeavesCells, DecodesCells};
 ghost use Rattle.codes.proofs.Checking.{Code};
-ghost use Rattle.words.specs.Within.{lengthsCheck, says};
+ghost use Rattle.words.specs.Within.{lengthsCheck, word-of, message-of};
 
 #[repr(C)]
 pub struct Outcome {
@@ -72,11 +72,21 @@ fn write_systematic(message: &[u8], word: &mut [u8], value: u64)
     cells::write_number(&mut word[k..], value);
 }
 
-// The systematic word of a message: its k cells, then the check cells.
-pub fn encode_systematic(n: usize, g: u64, message: &[u8], word: &mut [u8]) -> u64
-    ensures { λ m. ⌜ EncodesCells Systematic n g (now (message .entry)) (now (word .entry)) (now (word .exit)) m ⌝ }
+// What the encoder on numbers answers, the systematic one or the product one.
+fn encode_number(product: bool, n: usize, g: u64, message: u64) -> numbers::Value
+    ensures { λ x. ⌜ Encodes (word-of product) n g message (x .number) (x .value) ⌝ }
 {
-    let x = numbers::encode_systematic(n, g, cells::number_of(message));
+    if product {
+        return numbers::encode_product(n, g, message);
+    }
+    numbers::encode_systematic(n, g, message)
+}
+
+// The same with its word written into the lent cells.
+fn encode(product: bool, n: usize, g: u64, message: &[u8], word: &mut [u8]) -> u64
+    ensures { λ m. ⌜ EncodesCells (word-of product) n g (now (message .entry)) (now (word .entry)) (now (word .exit)) m ⌝ }
+{
+    let x = encode_number(product, n, g, cells::number_of(message));
     let m = x.number;
     if codes::comes_first(m) {
         return m;
@@ -85,25 +95,26 @@ pub fn encode_systematic(n: usize, g: u64, message: &[u8], word: &mut [u8]) -> u
     if l != 0 {
         return l;
     }
+    if product {
+        cells::write_number(word, x.value);
+        return 0;
+    }
     write_systematic(message, word, x.value);
     0
+}
+
+// The systematic word of a message: its k cells, then the check cells.
+pub fn encode_systematic(n: usize, g: u64, message: &[u8], word: &mut [u8]) -> u64
+    ensures { λ m. ⌜ EncodesCells Systematic n g (now (message .entry)) (now (word .entry)) (now (word .exit)) m ⌝ }
+{
+    encode(false, n, g, message, word)
 }
 
 // The product word of a message: D times g.
 pub fn encode_product(n: usize, g: u64, message: &[u8], word: &mut [u8]) -> u64
     ensures { λ m. ⌜ EncodesCells Product n g (now (message .entry)) (now (word .entry)) (now (word .exit)) m ⌝ }
 {
-    let x = numbers::encode_product(n, g, cells::number_of(message));
-    let m = x.number;
-    if codes::comes_first(m) {
-        return m;
-    }
-    let l = lent_number(n, g, message.len(), word.len(), message);
-    if l != 0 {
-        return l;
-    }
-    cells::write_number(word, x.value);
-    0
+    encode(true, n, g, message, word)
 }
 
 // The remainder of a word: the low-side remainder of its n cells.
@@ -138,7 +149,7 @@ pub fn remainder(n: usize, g: u64, word: &[u8]) -> Outcome
 
 // What the decoder on numbers answers, the systematic one or the product one.
 fn decode_number(product: bool, n: usize, g: u64, rule: u64, word: u64) -> numbers::Decoding
-    ensures { λ x. ⌜ Decodes (says product) n g rule word (x .number) (x .message) (x .mended) ⌝ }
+    ensures { λ x. ⌜ Decodes (message-of product) n g rule word (x .number) (x .message) (x .mended) ⌝ }
 {
     if product {
         return numbers::decode_product(n, g, rule, word);
@@ -148,7 +159,7 @@ fn decode_number(product: bool, n: usize, g: u64, rule: u64, word: u64) -> numbe
 
 // The same with its message written into the lent cells.
 fn decode(product: bool, n: usize, g: u64, rule: u64, word: &[u8], message: &mut [u8]) -> Answer
-    ensures { λ x. ⌜ DecodesCells (says product) n g rule (now (word .entry)) (now (message .entry)) (now (message .exit)) (x .number) (x .mended) ⌝ }
+    ensures { λ x. ⌜ DecodesCells (message-of product) n g rule (now (word .entry)) (now (message .entry)) (now (message .exit)) (x .number) (x .mended) ⌝ }
 {
     let x = decode_number(product, n, g, rule, cells::number_of(word));
     let m = x.number;

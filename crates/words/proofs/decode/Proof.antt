@@ -2,7 +2,7 @@
 use Prim.Native.Nat.{_<_}
 use borrow.Author.Needs.{needs}
 use lib.ListN.{length}
-use Rattle.words.specs.Within.{says}
+use Rattle.words.specs.Within.{message-of}
 use Rattle.words.proofs.Lending.{written-cells, says-fits, decode-first, decode-allowed, decode-lent, decode-unread, decode-decoded, decode-length, decode-done}
 use Rattle.words.proofs.decode.Statement.{statement}
 use Rattle.words.proofs.decode.Tie as tie
@@ -24,7 +24,7 @@ returns c =
     let e = c .before .before in
     let s = e .before .before .before .before .before in
     rw (c .refused .ensures .0, c .refused .ensures .1)
-    (decode-first (says (s .args .product)) (s .args .word .now) (s .args .message .now) (e .before .decode-number .ensures) (e .comes-first .ensures .yes (c .before .if1 .taken)))
+    (decode-first (message-of (s .args .product)) (s .args .word .now) (s .args .message .now) (e .before .decode-number .ensures) (e .comes-first .ensures .yes (c .before .if1 .taken)))
 
 -- the number is none of 1 to 5, so code and rule passed
 later : (c : tie.Else1) → (0 < c .before .before .decode-number .result .number) × (c .before .before .decode-number .result .number < 6) → ⊥
@@ -33,7 +33,7 @@ later c = c .before .comes-first .ensures .no (c .if1 .left)
 lent-number-requires : tie.Need-lent-number-requires
 lent-number-requires c κs =
     let s = c .before .before .before .before .before .before in
-    decode-allowed (says (s .args .product)) (s .args .word .now) (s .args .message .now) (c .before .before .decode-number .ensures) (later c) .code
+    decode-allowed (message-of (s .args .product)) (s .args .word .now) (s .args .message .now) (c .before .before .decode-number .ensures) (later c) .code
 
 refused-requires-2 : tie.Need-refused-requires-2
 refused-requires-2 c κs = search needs
@@ -46,7 +46,7 @@ returns-2 c =
     let w = s .args .word .now in
     let m = s .args .message .now in
     rw (c .refused2 .ensures .0, c .refused2 .ensures .1)
-    (decode-lent (says (s .args .product)) w m x (decode-allowed (says (s .args .product)) w m x (later e)) (c .before .if2 .taken) (c .before .before .lent-number .ensures))
+    (decode-lent (message-of (s .args .product)) w m x (decode-allowed (message-of (s .args .product)) w m x (later e)) (c .before .if2 .taken) (c .before .before .lent-number .ensures))
 
 refused-requires-3 : tie.Need-refused-requires-3
 refused-requires-3 c κs = search needs
@@ -57,7 +57,7 @@ returns-3 c =
     let e = l .before in
     let s = e .before .before .before .before .before .before in
     rw (c .refused3 .ensures .0, c .refused3 .ensures .1)
-    (decode-unread (says (s .args .product)) (s .args .word .now) (s .args .message .now) (e .before .before .decode-number .ensures) (later e) (l .lent-number .ensures) (c .before .before .if2 .left)
+    (decode-unread (message-of (s .args .product)) (s .args .word .now) (s .args .message .now) (e .before .before .decode-number .ensures) (later e) (l .lent-number .ensures) (c .before .before .if2 .left)
     (e .before .before .before .number-of .ensures) (c .before .if3 .taken))
 
 write-number-requires : tie.Need-write-number-requires
@@ -79,9 +79,9 @@ returns-4 c =
     let v = l .lent-number .ensures in
     let z = h .before .if2 .left in
     let p = e .before .before .before .number-of .ensures in
-    let y = decode-decoded (says way) w m x (later e) v z p (h .if3 .left) in
-    let k = decode-length (says way) w m x (later e) v z p in
-    decode-done (says way) w m x (later e) v z p (h .if3 .left)
+    let y = decode-decoded (message-of way) w m x (later e) v z p (h .if3 .left) in
+    let k = decode-length (message-of way) w m x (later e) v z p in
+    decode-done (message-of way) w m x (later e) v z p (h .if3 .left)
     (rw (c .before .before .write-number .ensures) (written-cells (length m) _ (says-fits way (y .mends .code) k (y .message))))
 
 pub decode-spec : {M : Type 1} → statement M
