@@ -1,13 +1,12 @@
 // The calls on a code with words and messages as numbers: bit i is x^i, so the last cell is the lowest.
-ghost use mathlib.Core.Path.{_≡_};
-ghost use mathlib.Core.List.{List, [], _∷_, _++_};
-ghost use Prim.Native.Nat.{_*_, _^_, _≤_, _<_};
-ghost use Rattle.poly.specs.Poly.{Degree, Remainder};
+ghost use mathlib.Core.List.{[], _∷_, _++_};
+ghost use Prim.Native.Nat.{_^_, _≤_, _<_};
+ghost use Rattle.poly.specs.Poly.{Degree};
 ghost use Rattle.verdict.specs.Verdict.{Verdict};
 ghost use Rattle.codes.specs.Code.{codeChecks};
 ghost use Rattle.codes.specs.Mending.{Pattern};
 ghost use Rattle.codes.specs.Coding.{Systematic, Product, First};
-ghost use Rattle.codes.specs.Calls.{messageCheck, wordCheck, Encodes, Leaves, Decodes};
+ghost use Rattle.codes.specs.Calls.{messageCheck, Encodes, Leaves, Decodes};
 ghost use Rattle.codes.specs.Row.{Given};
 ghost use Rattle.codes.proofs.Checking.{Code};
 ghost use Rattle.numbers.specs.Finding.{FirstShift, Finds, FindsCode};

@@ -1,7 +1,6 @@
 // The better of two readings of one plate.
 ghost use mathlib.Core.Path.{_≡_};
 ghost use mathlib.Core.List.{[]};
-ghost use mathlib.Core.Logic.{_⊎_};
 ghost use Rattle.readings.specs.Readings.{Numbered, Picks};
 ghost use Rattle.readings.specs.Within.{Weighs, Chosen};
 

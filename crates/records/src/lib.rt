@@ -58,7 +58,7 @@ fn put_fields(
     requires { ⌜ (number < 10) × (count < 10) × (at + 64 ≤ length (now out)) ⌝ }
     ensures { λ e. ⌜ PutsLine (lineOf (fields letter 0 0 0 station 0) number count value) (now (out .entry)) at (now (out .exit)) e ⌝ }
 {
-    let a = tables::put_number(out, at, station);
+    let a = text::put_number(out, at, station);
     let middle = [
         b' ',
         shown(letter),
@@ -69,7 +69,7 @@ fn put_fields(
         b' ',
     ];
     let b = text::put_bytes(out, a, &middle);
-    let c = tables::put_number(out, b, value);
+    let c = text::put_number(out, b, value);
     text::put_bytes(out, c, b"\n")
 }
 

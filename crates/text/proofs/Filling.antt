@@ -1,15 +1,16 @@
 -- The digits of a number are filled in from the last to the first: those that are left and what is written stay one text.
 -- Assumes nothing.
-use mathlib.Core.Path.{_≡_, refl, ap, _∙_}
-use mathlib.Core.List.{List, _∷_, _++_}
-use Prim.Native.Nat.{ℕ, suc, _+_, _-_, _/_, _%_, _<_, _≤_}
+use mathlib.Core.Path.{_≡_, refl, _∙_}
+use mathlib.Core.List.{List, _++_, append-assoc}
+use Prim.Native.Nat.{ℕ, _+_, _-_, _/_, _%_, _^_, _<_, _≤_}
 use native.Mathlib.Numerals.{add-one}
 use native.Mathlib.Omega.{arith}
-use lib.ListN.{length, take, drop, set, length-set}
-use lib.Seq.{append-snoc, drop-cons, drop-set-lt, getD-set-same, lt-length-set, set-split, take-set-le}
-use Rattle.text.specs.Text.{decimal, Puts}
-use Rattle.text.proofs.Decimal.{decimal-one, decimal-more, decimal-longer, decimal-some}
-use Rattle.text.proofs.Puts.{puts-done}
+use lib.ListN.{length, take, drop, set}
+use lib.Seq.{set-split}
+use Rattle.text.specs.Text.{decimal, written, Puts}
+use Rattle.text.specs.Lowest.{lowest}
+use Rattle.text.proofs.Decimal.{decimal-one, decimal-split, lowest-length, decimal-longer, decimal-some}
+use Rattle.text.proofs.Puts.{written-length, written-before, written-rest, puts-done}
 
 -- `value` goes into the slice `start` from place `at` up to place `end`; the digits of v, before place i, are still to be written
 pub record Filling (value : ℕ) (start : List ℕ) (at end : ℕ) (out : List ℕ) (i v : ℕ) : Type 0 where
@@ -21,10 +22,6 @@ pub record Filling (value : ℕ) (start : List ℕ) (at end : ℕ) (out : List �
   pub before : take at out ≡ take at start
   pub text : decimal value ++ drop end start ≡ decimal v ++ drop i out
 
--- a store before a tail
-drop-set : (l : List ℕ) (i x : ℕ) → i < length l → drop i (set l i x) ≡ x ∷ drop (suc i) l
-drop-set l i x h = rw (drop-cons (set l i x) i 0 (lt-length-set l i x h), getD-set-same l i x 0 h, drop-set-lt (suc i) l i x (omega arith))
-
 pub filling-start : {value at end : ℕ} (start : List ℕ) → end ≡ at + length (decimal value) → end ≤ length start → Filling value start at end start end value
 filling-start start e h = record { whole = e; room = h; left = e; within = omega arith; long = refl; before = refl; text = refl }
 
@@ -33,27 +30,40 @@ module _ {value at end i v : ℕ} {start out : List ℕ} (f : Filling value star
   pub filling-left : at < i
   filling-left = omega (arith, decimal-some v)
 
-  -- the last digit of several is written before what is written
-  pub filling-more : 10 ≤ v → Filling value start at end (set out (i - 1) (48 + v % 10)) (i - 1) (v / 10)
-  filling-more m =
-      let n = decimal-longer v m in
-      let e : i ≡ suc (i - 1) = omega (arith, filling-left) in
-      let h : i - 1 < length out = omega (arith, filling-left) in
-      record {
-        whole = f .whole;
-        room = f .room;
-        left = omega arith;
-        within = omega arith;
-        long = length-set out (i - 1) (48 + v % 10) ∙ f .long;
-        before = take-set-le at out (i - 1) (48 + v % 10) (omega (arith, decimal-some (v / 10))) ∙ f .before;
-        text = f .text ∙ ap (λ (k : ℕ). decimal v ++ drop k out) e ∙ rw (decimal-more v m, drop-set out (i - 1) (48 + v % 10) h, append-snoc);
-      }
+  -- the k lowest digits of more are written before what is written
+  module _ (k : ℕ) (m : 10 ^ k ≤ v) where
+    part-room : i - k + length (lowest k v) ≤ length out
+    part-room = omega (arith, lowest-length k v, decimal-longer k v m)
 
-  -- and the only one left completes the text
+    pub filling-more : Filling value start at end (written (lowest k v) out (i - k)) (i - k) (v / 10 ^ k)
+    filling-more =
+        let n = decimal-longer k v m in
+        let e : i ≡ i - k + length (lowest k v) = omega (arith, lowest-length k v) in
+        record {
+          whole = f .whole;
+          room = f .room;
+          left = omega arith;
+          within = omega arith;
+          long = written-length (lowest k v) out (i - k) part-room ∙ f .long;
+          before = written-before (lowest k v) out (i - k) part-room at (omega (arith, decimal-some (v / 10 ^ k))) ∙ f .before;
+          text = f .text ∙ rw (decimal-split k v m, append-assoc (decimal (v / 10 ^ k)), written-rest (lowest k v) out (i - k) part-room, ← e);
+        }
+
+  -- one of them as a store
+  pub filling-one : 10 ≤ v → Filling value start at end (set out (i - 1) (48 + v % 10)) (i - 1) (v / 10)
+  unfolding lowest
+  filling-one m = rw (set-split out (i - 1) (48 + v % 10) (omega (arith, filling-left)), ← add-one (i - 1)) (filling-more 1 m)
+
+  -- a put of what is left completes the text
+  pub filling-join : {out′ : List ℕ} → Puts (decimal v) out at out′ i → Puts (decimal value) start at out′ end
+  filling-join p =
+      let put = p .fits (omega arith) in
+      puts-done (rw (← f .whole) (f .room)) (f .whole) (rw (put .1, ← f .left, f .before, ← f .text, f .whole))
+
+  -- so does the only digit left
   pub filling-done : v < 10 → Puts (decimal value) start at (set out at (48 + v)) end
   filling-done s =
       let one = decimal-one v s in
-      let e : i ≡ suc at = f .left ∙ rw (one, add-one) in
+      let e : i ≡ at + 1 = f .left ∙ rw one in
       let h : at < length out = omega (arith, filling-left) in
-      let last : decimal value ++ drop end start ≡ (48 + v) ∷ drop (suc at) out = f .text ∙ rw (one, e) in
-      puts-done (rw (← f .whole) (f .room)) (f .whole) (rw (set-split out at (48 + v) h, f .before, ← last, f .whole))
+      filling-join (rw one (puts-done (omega arith) e (rw (set-split out at (48 + v) h, add-one))))

@@ -1,4 +1,4 @@
--- Text put into a slice: two puts in a row are one of both texts, what stands before and after is kept, and two results are equal.
+-- Text put into a slice: two puts in a row are one of both texts, and two results are equal.
 -- Assumes nothing.
 use mathlib.Core.Path.{_≡_, refl, sym, ap, _∙_}
 use mathlib.Core.List.{List, [], _++_, append-assoc}
@@ -19,7 +19,7 @@ module _ (text out : List ℕ) (at : ℕ) (room : at + length text ≤ length ou
   parted : written text out at ≡ (take at out ++ text) ++ drop (at + length text) out
   parted = sym (append-assoc (take at out) text (drop (at + length text) out))
 
-  written-length : length (written text out at) ≡ length out
+  pub written-length : length (written text out at) ≡ length out
   written-length = rw (parted, length-append, front, length-drop) (omega arith)
 
   written-take : take (at + length text) (written text out at) ≡ take at out ++ text
@@ -28,7 +28,11 @@ module _ (text out : List ℕ) (at : ℕ) (room : at + length text ≤ length ou
   written-drop : drop (at + length text) (written text out at) ≡ drop (at + length text) out
   written-drop = rw (parted, drop-at _ _ _ front)
 
-  written-before : (k : ℕ) → k ≤ at → take k (written text out at) ≡ take k out
+  -- from the place on stand the text and what stood behind it
+  pub written-rest : drop at (written text out at) ≡ text ++ drop (at + length text) out
+  written-rest = drop-at (take at out) (text ++ drop (at + length text) out) at (length-take-le at out (omega arith))
+
+  pub written-before : (k : ℕ) → k ≤ at → take k (written text out at) ≡ take k out
   written-before k h =
       let l : k ≤ length (take at out) = rw (length-take-le at out (omega arith)) h in
       rw (take-append-le k (take at out) (text ++ drop (at + length text) out) l, take-take k at out h)
@@ -67,23 +71,9 @@ module _ {text out out′ : List ℕ} {at end : ℕ} (p : Puts text out at out�
   pub puts-length : length out′ ≡ length out
   puts-length = either (λ room e w. rw (w, written-length text out at room)) (λ l e w. ap length w)
 
-  -- the place goes neither back nor beyond the slice
-  pub puts-forth : at ≤ end
-  puts-forth = either (λ room e w. omega arith) (λ l e w. omega arith)
-
+  -- the place does not go beyond the slice
   pub puts-within : at ≤ length out → end ≤ length out
   puts-within h = either (λ room e w. omega arith) (λ l e w. omega arith)
-
-  -- what stands before the place is kept, and so is what stands after the text
-  pub puts-before : (k : ℕ) → k ≤ at → take k out′ ≡ take k out
-  puts-before k h = either (λ room e w. rw (w, written-before text out at room k h)) (λ l e w. ap (take k) w)
-
-  pub puts-after : drop end out′ ≡ drop end out
-  puts-after = either (λ room e w. rw (e, w, written-drop text out at room)) (λ l e w. ap (drop end) w)
-
-  -- of a text that fits: up to the place handed back stands what stood before, and then the text
-  pub puts-take : at + length text ≤ length out → take end out′ ≡ take at out ++ text
-  puts-take room = rw (p .fits room .0, p .fits room .1, written-take text out at room)
 
 module _ {s t out out′ out″ : List ℕ} {at mid end : ℕ} where
   -- a put and what follows it are a put of both texts, if both fit; what follows need only be a put if it fits, so that a chain asks for room once:

@@ -1,9 +1,10 @@
 // Bytes and numbers in decimal, written into a lent slice at a place.
-ghost use Prim.Native.Nat.{_+_};
+ghost use Prim.Native.Nat.{_+_, _≤_};
 ghost use mathlib.Core.Path.{_≡_};
 ghost use lib.Dec.{leb};
 ghost use lib.ListN.{length};
-ghost use Rattle.text.specs.Text.{decimal, Puts};
+ghost use Rattle.text.specs.Text.{decimal, written, Puts};
+ghost use Rattle.text.specs.Lowest.{lowest};
 
 // Writes the text `bytes` into the slice from place `at` on and hands back the place after it. If it does not fit, nothing is written and `at` is handed back.
 pub fn put_bytes(out: &mut [u8], at: usize, bytes: &[u8]) -> usize
@@ -20,7 +21,19 @@ pub fn put_bytes(out: &mut [u8], at: usize, bytes: &[u8]) -> usize
     at + i
 }
 
-// Writes the number in decimal, with no leading zeros and 0 as `0`; the same. The digits go straight to their places, from the last to the first.
+// The four lowest digits of v, from place `at` on.
+fn put_four(out: &mut [u8], at: usize, v: u64)
+    requires { ⌜ at + 4 ≤ length (now out) ⌝ }
+    ensures { λ _. ⌜ now (out .exit) ≡ written (lowest 4 v) (now (out .entry)) at ⌝ }
+{
+    out[at] = 48 + (v / 1000 % 10) as u8;
+    out[at + 1] = 48 + (v / 100 % 10) as u8;
+    out[at + 2] = 48 + (v / 10 % 10) as u8;
+    out[at + 3] = 48 + (v % 10) as u8;
+}
+
+// Writes the number in decimal, with no leading zeros and 0 as `0`; the same. The digits go straight to their places, from the last to the first, and as long
+// as there are more than four, four at a time.
 pub fn put_number(out: &mut [u8], at: usize, value: u64) -> usize
     ensures { λ r. ⌜ Puts (decimal value) (now (out .entry)) at (now (out .exit)) r ⌝ }
 {
@@ -31,6 +44,11 @@ pub fn put_number(out: &mut [u8], at: usize, value: u64) -> usize
     let end = at + digits;
     let mut i = end;
     let mut v = value;
+    while 10000 <= v {
+        i -= 4;
+        put_four(out, i, v);
+        v = v / 10000;
+    }
     while 10 <= v {
         i -= 1;
         out[i] = 48 + (v % 10) as u8;
@@ -45,12 +63,13 @@ fn count_digits(value: u64) -> usize
     ensures { λ r. ⌜ r ≡ length (decimal value) ⌝ }
 {
     let mut digits = 1;
-    let mut power: u64 = 10;
-    while power <= value {
-        if digits == 19 {
-            return 20;
-        }
-        power = power * 10;
+    let mut v = value;
+    while 10000 <= v {
+        v = v / 10000;
+        digits += 4;
+    }
+    while 10 <= v {
+        v = v / 10;
         digits += 1;
     }
     digits

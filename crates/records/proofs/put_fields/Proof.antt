@@ -2,13 +2,9 @@
 use mathlib.Core.Path.{_∙_}
 use Prim.Native.Nat.{_+_, _≤_}
 use native.Mathlib.Omega.{arith}
-use lib.Dec.{lit≤}
 use lib.ListN.{length}
 use borrow.Author.Needs.{needs}
-use Rattle.text.specs.Text.{decimal, Puts}
-use Rattle.text.proofs.Decimal.{decimal-most-64}
 use Rattle.text.proofs.Puts.{puts-length, puts-then, puts-append}
-use Rattle.tables.proofs.Decimals.{next-room}
 use Rattle.records.specs.Records.{lineOf}
 use Rattle.records.specs.Steps.{fields}
 use Rattle.records.proofs.Wording.{line-text, line-short}
@@ -48,28 +44,13 @@ slice-aggregate-put-bytes-2 c = search needs
 put-bytes-requires-2 : tie.Need-put-bytes-requires-2
 put-bytes-requires-2 c κs = search needs
 
--- there is room for the station, and after it and seven bytes for the value
-station : (c : tie.After-put-number) → Puts (decimal (c .before .before .before .args .station)) (c .before .before .before .args .out .now)
-    (c .before .before .before .args .at) (c .put-number .last .0) (c .put-number .result)
-station c = c .put-number .ensures .holds (omega (arith, c .before .before .before .pre .2))
-
-value : (c : tie.After-put-number2) → Puts (decimal (c .before .before .before .before .before .before .before .before .before .before .before .before .before .args .value))
-    (c .before .before .before .before .put-bytes .last .0) (c .before .before .before .before .put-bytes .result) (c .put-number2 .last .0) (c .put-number2 .result)
-value c =
-    let middle = c .before .before .before .before in
-    let first = middle .before .before .before .before .before .before in
-    let s = first .before .before .before in
-    let after = next-room 20 44 (station first) (decimal-most-64 (s .args .station) (s .fits .station .fits)) (s .pre .2) in
-    let behind = next-room 7 37 (middle .put-bytes .ensures) (lit≤ tt) after in
-    c .put-number2 .ensures .holds (omega (arith, behind))
-
 same-length : tie.Need-same-length
 same-length c =
     let last = c .before .before in
     let number = last .before .before .before .before .before in
     let middle = number .before .before .before .before in
-    puts-length (last .put-bytes2 .ensures) ∙ puts-length (value number) ∙ puts-length (middle .put-bytes .ensures)
-    ∙ puts-length (station (middle .before .before .before .before .before .before))
+    puts-length (last .put-bytes2 .ensures) ∙ puts-length (number .put-number2 .ensures) ∙ puts-length (middle .put-bytes .ensures)
+    ∙ puts-length (middle .before .before .before .before .before .before .put-number .ensures)
 
 returns : tie.Need-returns
 returns c =
@@ -86,7 +67,7 @@ returns c =
     record {
       short = short;
       puts = rw (text, ← (shown .shown .ensures))
-          (puts-then (station first) (puts-then (middle .put-bytes .ensures) (puts-append (value number) (last .put-bytes2 .ensures)))
+          (puts-then (first .put-number .ensures) (puts-then (middle .put-bytes .ensures) (puts-append (number .put-number2 .ensures) (last .put-bytes2 .ensures)))
           (rw (text, ← (shown .shown .ensures)) at room));
     }
 
