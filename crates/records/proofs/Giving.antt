@@ -36,9 +36,9 @@ other e p s d q D = d
 other e p s d q Q = q
 
 -- a letter, a family and a zero byte: the job decides
-pub gives-job : (x : Record) (job : Job) {number count value : ℕ} → x .letter ≡ letterOf job → 1 ≤ x .family → x .family ≤ 12 → x .third ≡ 0
+pub gives-job : (x : Record) (job : Job) {number count value : ℕ} → x .letter ≡ letterOf job → 1 ≤ x .family → x .family ≤ 12 → x .spare ≡ 0
     → Answered job (lengthOf (x .family)) (generatorOf (x .family)) (x .rule) (x .word) number count value → Gives x number count value
-gives-job x job letter least most third a = record {
-  refused = λ none. a .refused λ rule word. none job (record { letter = letter; least = least; most = most; third = third; rule = rule; word = word });
+gives-job x job letter least most spare a = record {
+  refused = λ none. a .refused λ rule word. none job (record { letter = letter; least = least; most = most; spare = spare; rule = rule; word = word });
   done = λ other b. let same = letter-job other job (sym (b .letter) ∙ letter) in rw same (a .done (rw same at (b .rule)) (rw same at (b .word)));
 }

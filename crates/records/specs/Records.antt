@@ -22,7 +22,7 @@ pub record Record : Type 0 where
   pub letter : ℕ
   pub family : ℕ
   pub rule : ℕ
-  pub third : ℕ
+  pub spare : ℕ
   pub station : ℕ
   pub word : ℕ
 
@@ -32,7 +32,7 @@ recordOf bytes = record {
   letter = getD bytes 0 0;
   family = getD bytes 1 0;
   rule = getD bytes 2 0;
-  third = getD bytes 3 0;
+  spare = getD bytes 3 0;
   station = bigEndian (take 4 (drop 4 bytes));
   word = bigEndian (take 8 (drop 8 bytes));
 }
@@ -75,7 +75,7 @@ pub record Allowed (x : Record) (job : Job) : Type 0 where
   pub letter : x .letter ≡ letterOf job
   pub least : 1 ≤ x .family
   pub most : x .family ≤ 12
-  pub third : x .third ≡ 0
+  pub spare : x .spare ≡ 0
   pub rule : RuleFits job (x .rule)
   pub word : WordFits job (lengthOf (x .family)) (generatorOf (x .family)) (x .word)
 

@@ -25,8 +25,8 @@ Mending n g rule w number count code =
 
 -- A record by its fields.
 abbrev pub fields : ℕ → ℕ → ℕ → ℕ → ℕ → ℕ → Record
-fields letter family rule third station word =
-    record { letter = letter; family = family; rule = rule; third = third; station = station; word = word }
+fields letter family rule spare station word =
+    record { letter = letter; family = family; rule = rule; spare = spare; station = station; word = word }
 
 -- A line of at most 64 bytes, put at a place.
 pub record PutsLine (text out : List ℕ) (at : ℕ) (out′ : List ℕ) (place : ℕ) : Type 0 where

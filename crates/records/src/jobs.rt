@@ -259,14 +259,14 @@ pub(crate) fn answer(
     letter: u8,
     family: u64,
     rule: u64,
-    third: u64,
+    spare: u64,
     word: u64,
 ) -> Outcome
     requires { ⌜ (now ns ≡ lengths) × (now gs ≡ generators) × Parts (now parts) × Places (now places) ⌝ }
     ensures digits { λ a. ⌜ (a .number < 10) × (a .count < 10) ⌝ }
-    ensures gives { λ a. ⌜ ((station : ℕ) → Gives (fields letter family rule third station word) (a .number) (a .count) (a .value)) ⌝ }
+    ensures gives { λ a. ⌜ ((station : ℕ) → Gives (fields letter family rule spare station word) (a .number) (a .count) (a .value)) ⌝ }
 {
-    if third != 0 {
+    if spare != 0 {
         return refused(9);
     }
     if family == 0 {

@@ -61,8 +61,8 @@ returns : tie.Need-returns
 returns c =
     let put = c .before .before in
     let answer = put .before .before in
-    let third = answer .before in
-    let rule = third .before .before in
+    let spare = answer .before in
+    let rule = spare .before .before in
     let family = rule .before .before in
     let word = family .before .before in
     let station = word .before .before in
@@ -71,7 +71,7 @@ returns c =
       count = answer .answer .result .count;
       value = answer .answer .result .value;
       gives =
-          rw (family .wide .ensures, rule .wide2 .ensures, third .wide3 .ensures, word .big-endian2 .ensures, station .big-endian .ensures) at
+          rw (family .wide .ensures, rule .wide2 .ensures, spare .wide3 .ensures, word .big-endian2 .ensures, station .big-endian .ensures) at
           (answer .answer .ensures .1 (station .big-endian .result));
       line = rw (station .big-endian .ensures) at (put .put-fields .ensures);
     }

@@ -18,7 +18,7 @@ refused-requires : tie.Need-refused-requires
 refused-requires c κs = search needs
 
 returns : tie.Need-returns
-returns c = rw (c .refused .ensures .0, c .refused .ensures .1, c .refused .ensures .2) ((omega arith, omega arith), λ station. gives-none λ job a. c .before .if1 .taken (a .third))
+returns c = rw (c .refused .ensures .0, c .refused .ensures .1, c .refused .ensures .2) ((omega arith, omega arith), λ station. gives-none λ job a. c .before .if1 .taken (a .spare))
 
 refused-requires-2 : tie.Need-refused-requires-2
 refused-requires-2 c κs = search needs
@@ -76,13 +76,13 @@ family c =
 -- what a job answers is what the record gives
 given : (c : tie.After-degree-of) (job : Job) {number count value : ℕ} → c .before .before .before .before .before .before .args .letter ≡ letterOf job
     → Answered job (getD (c .before .before .before .before .before .before .args .ns .now) (c .before .before .before .before .before .before .args .family - 1) 0) (getD generators (c .before .before .before .before .before .before .args .family - 1) 0) (c .before .before .before .before .before .before .args .rule) (c .before .before .before .before .before .before .args .word) number count value
-    → ((number < 10) × (count < 10)) × ((station : ℕ) → Gives (fields (c .before .before .before .before .before .before .args .letter) (c .before .before .before .before .before .before .args .family) (c .before .before .before .before .before .before .args .rule) (c .before .before .before .before .before .before .args .third) station (c .before .before .before .before .before .before .args .word)) number count value)
+    → ((number < 10) × (count < 10)) × ((station : ℕ) → Gives (fields (c .before .before .before .before .before .before .args .letter) (c .before .before .before .before .before .before .args .family) (c .before .before .before .before .before .before .args .rule) (c .before .before .before .before .before .before .args .spare) station (c .before .before .before .before .before .before .args .word)) number count value)
 given c job letter a =
     let e = c .before .before .before in
     let s = e .before .before .before in
     let k = s .args .family in (
       a .digits,
-      λ station. gives-job (fields (s .args .letter) k (s .args .rule) (s .args .third) station (s .args .word)) job letter (least e) (e .if3 .left)
+      λ station. gives-job (fields (s .args .letter) k (s .args .rule) (s .args .spare) station (s .args .word)) job letter (least e) (e .if3 .left)
           (e .before .before .if1 .left) (rw (within 0 lengths k (least e), within 0 generators k (least e)) (rw (cells s) at a)),
     )
 
