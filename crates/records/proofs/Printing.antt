@@ -86,7 +86,7 @@ module _ {records start out : List ℕ} {place i : ℕ} (h : Room records start)
 
   -- nothing left over
   pub done-all : length records ≤ i → Printed records start out place
-  done-all l = where-holds h (d .text, rw append-nil at (d .prints [] (rw (drop-of-length-le records l) end)), d .puts)
+  done-all l = where-holds h (d .text, rw append-nil at (d .prints [] (rw (drop-of-length-le records l) end)), omega (arith, done-room, done-length, d .long), d .puts)
 
   -- 1 to 15 bytes left over
   pub done-rest : {out′ : List ℕ} {place′ : ℕ} → i < length records → length records - i < 16 → PutsLine (shortOf (length records - i)) out place out′ place′
@@ -97,6 +97,7 @@ module _ {records start out : List ℕ} {place i : ℕ} (h : Room records start)
       where-holds h (
         d .text ++ shortOf (length records - i),
         d .prints (shortOf (length records - i)) (rw left at (rest (drop i records) (rw left (omega arith)) (rw left b))),
+        omega (arith, done-room, done-length, m .short, d .long),
         puts-append (d .puts) (m .puts) (omega (arith, done-room, done-length, m .short, d .long)),
       )
 
@@ -107,4 +108,4 @@ module _ (records start out : List ℕ) (place : ℕ) (p : Printed records start
     where
       go : (length start < 64 * (length records / 16 + 1)) ⊎ (64 * (length records / 16 + 1) ≤ length start) → place ≤ length out
       go (inl l) = let f = p .fails (λ r. omega arith) in omega (arith, f .0)
-      go (inr r) = let h = p .holds r .2 in rw (puts-length h) (puts-within h (omega arith))
+      go (inr r) = let h = p .holds r .3 in rw (puts-length h) (puts-within h (omega arith))

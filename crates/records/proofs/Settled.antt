@@ -1,9 +1,9 @@
 -- Two results of one call are equal: what a record gives is settled, then its line, and so what a block of records prints.
 -- Assumes nothing.
 use mathlib.Core.Path.{_≡_, refl, sym, ap, ap₂, _∙_}
-use mathlib.Core.List.{List, _++_}
+use mathlib.Core.List.{List, _++_, append-assoc}
 use mathlib.Core.Logic.{_⊎_, inl, inr}
-use Prim.Native.Nat.{ℕ, _+_, _*_, _/_, _≤_, _<_}
+use Prim.Native.Nat.{ℕ, _+_, _*_, _/_, _%_, _≤_, _<_}
 use native.Mathlib.Omega.{arith}
 use lib.ListN.{length, take, drop, length-append}
 use lib.Seq.{take-at, drop-at}
@@ -74,6 +74,14 @@ prints-same (line xs less s m c v k g p) (line ys more t n d w l h q) e =
 pub prints-settled : {bytes t u : List ℕ} → Prints bytes t → Prints bytes u → t ≡ u
 prints-settled p q = prints-same p q refl
 
+-- a run of whole records and what follows it print one after the other
+pub prints-append : {a b t u : List ℕ} → Prints a t → length a % 16 ≡ 0 → Prints b u → Prints (a ++ b) (t ++ u)
+prints-append end w q = q
+prints-append (rest xs l m) w q = let n : ⊥ = omega arith in absurd n
+prints-append {b = b} {u = u} (line xs more text m c v k g p) w q =
+    rw (append-assoc xs more b, append-assoc (lineOf (recordOf xs) m c v) text u)
+    (line xs (more ++ b) (text ++ u) m c v k g (prints-append p (omega (arith, length-append xs more)) q))
+
 -- two results of `lines`
 pub lines-settled : {records out a b : List ℕ} {i j : ℕ} → Printed records out a i → Printed records out b j → (i ≡ j) × (a ≡ b)
 lines-settled {records} {out} {a} {b} {i} {j} u v = go (lt-or-le (length out) (64 * (length records / 16 + 1)))
@@ -86,4 +94,4 @@ lines-settled {records} {out} {a} {b} {i} {j} u v = go (lt-or-le (length out) (6
     go (inr r) =
         let p = u .holds r in
         let q = v .holds r in
-        put-bytes-settled (rw (prints-settled (p .1) (q .1)) at (p .2)) (q .2)
+        put-bytes-settled (rw (prints-settled (p .1) (q .1)) at (p .3)) (q .3)

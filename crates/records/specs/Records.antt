@@ -120,7 +120,8 @@ pub data Prints : List ℕ → List ℕ → Type 0 where
 abbrev pub Room : List ℕ → List ℕ → Type 0
 Room records out = 64 * (length records / 16 + 1) ≤ length out
 
--- What the records print is put at the front of `out`, and the place after it handed back. Where there is no room, nothing is written and 0 handed back.
+-- What the records print fits, is put at the front of `out`, and the place after it handed back. Where there is no room, nothing is written and 0
+-- handed back.
 abbrev pub Printed : List ℕ → List ℕ → List ℕ → ℕ → Type 0
 Printed records out out′ place =
-    Where (Room records out) ((text : List ℕ) × Prints records text × Puts text out 0 out′ place) ((place ≡ 0) × (out′ ≡ out))
+    Where (Room records out) ((text : List ℕ) × Prints records text × (length text ≤ length out) × Puts text out 0 out′ place) ((place ≡ 0) × (out′ ≡ out))

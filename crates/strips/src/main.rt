@@ -3,7 +3,7 @@ use libc::STDERR_FILENO;
 use libc::STDIN_FILENO;
 use libc::STDOUT_FILENO;
 ghost use mathlib.Core.Path.{_≡_};
-ghost use Prim.Native.Nat.{_≤_};
+ghost use Prim.Native.Nat.{_%_, _≤_};
 ghost use lib.ListN.{length};
 ghost use Rattle.records.specs.Records.{Room};
 
@@ -41,17 +41,24 @@ fn fill(block: &mut [u8]) -> Filled
     }
 }
 
-// Writes the lines of the records; whether that was done.
+// Writes the lines of the records; whether that was done. If not, says so on standard error.
 fn print(records: &[u8], out: &mut [u8]) -> bool
     requires { ⌜ Room (now records) (now out) ⌝ }
 {
     let end = records::lines(records, out);
-    io::write_all(STDOUT_FILENO, &out[..end])
+    if io::write_all(STDOUT_FILENO, &out[..end]) {
+        return true;
+    }
+    io::write_all(
+        STDERR_FILENO,
+        b"strips: standard output cannot be written\n",
+    );
+    false
 }
 
-// One block; whether to go on. What is left over before a read that fails is no remainder of the input.
+// One block of whole records; whether to go on. What is left over before a read that fails is no remainder of the input.
 fn one_block(block: &mut [u8], out: &mut [u8]) -> bool
-    requires { ⌜ Room (now block) (now out) ⌝ }
+    requires { ⌜ Room (now block) (now out) × (length (now block) % 16 ≡ 0) ⌝ }
 {
     let filled = fill(block);
     let n = filled.count;
@@ -62,10 +69,6 @@ fn one_block(block: &mut [u8], out: &mut [u8]) -> bool
         return false;
     }
     if !print(&block[..n], out) {
-        io::write_all(
-            STDERR_FILENO,
-            b"strips: standard output cannot be written\n",
-        );
         return false;
     }
     n == block.len()

@@ -36,7 +36,7 @@ print-requires : tie.Need-print-requires
 print-requires c κs =
     let f = c .before .before .before .before .before in
     let s = f .before .before .before .before in
-    roomy (f .fill .result .count - f .fill .result .count % 16) (s .args .block .now) (f .fill .last .0) (s .args .out .now) (same f) (s .pre)
+    roomy (f .fill .result .count - f .fill .result .count % 16) (s .args .block .now) (f .fill .last .0) (s .args .out .now) (same f) (s .pre .0)
 
 slice-aggregate-write-all : tie.Need-slice-aggregate-write-all
 slice-aggregate-write-all c = search needs
@@ -65,13 +65,7 @@ print-requires-2 : tie.Need-print-requires-2
 print-requires-2 c κs =
     let f = c .before .before .before .before .before in
     let s = f .before .before .before .before in
-    roomy (f .fill .result .count) (s .args .block .now) (f .fill .last .0) (s .args .out .now) (same f) (s .pre)
-
-slice-aggregate-write-all-2 : tie.Need-slice-aggregate-write-all-2
-slice-aggregate-write-all-2 c = search needs
-
-write-all-requires-2 : tie.Need-write-all-requires-2
-write-all-requires-2 c κs = search needs
+    roomy (f .fill .result .count) (s .args .block .now) (f .fill .last .0) (s .args .out .now) (same f) (s .pre .0)
 
 same-length-3 : tie.Need-same-length-3
 same-length-3 c = search needs
@@ -108,8 +102,6 @@ one-block-spec =
     slice-reshare-prefix-print-2
     slice-aggregate-print-2
     print-requires-2
-    slice-aggregate-write-all-2
-    write-all-requires-2
     same-length-3
     same-length-4
     returns-2

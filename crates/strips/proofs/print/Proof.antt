@@ -28,6 +28,18 @@ same-length c = search needs
 returns : tie.Need-returns
 returns c = search needs
 
+slice-aggregate-write-all-2 : tie.Need-slice-aggregate-write-all-2
+slice-aggregate-write-all-2 c = search needs
+
+write-all-requires-2 : tie.Need-write-all-requires-2
+write-all-requires-2 c κs = search needs
+
+same-length-2 : tie.Need-same-length-2
+same-length-2 c = search needs
+
+returns-2 : tie.Need-returns-2
+returns-2 c = search needs
+
 pub print-spec : {M : Type 1} → statement M
 print-spec =
     tie.close
@@ -37,4 +49,8 @@ print-spec =
     slice-aggregate-write-all
     write-all-requires
     same-length
-    returns)
+    returns
+    slice-aggregate-write-all-2
+    write-all-requires-2
+    same-length-2
+    returns-2)
