@@ -7,7 +7,7 @@
  * and the last cell being neighbours.
  *
  * Every call takes any numbers and any cells and never relies on its caller having looked first. A pointer must be to as many bytes as are named
- * after it, and cells that a call writes must not overlap others lent to it. What can't be used is refused by number:
+ * after it (not null, even for no bytes), and cells that a call writes must not overlap others lent to it. What can't be used is refused by number:
  *
  *    0  done
  *    1  n, or a dividend's length (0 to 4,096 cells), outside its range

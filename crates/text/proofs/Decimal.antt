@@ -48,13 +48,15 @@ unfolding lowest
 lowest-length zero n = refl
 lowest-length (suc k) n = rw (length-append, lowest-length k (n / 10), add-one)
 
--- four of them as they are
-pub lowest-four : (n : ℕ) → lowest 4 n ≡ (48 + n / 1000 % 10) ∷ (48 + n / 100 % 10) ∷ (48 + n / 10 % 10) ∷ (48 + n % 10) ∷ []
+-- four of them, by one division
+pub lowest-four : (n w : ℕ) → w ≡ n % 10000 → lowest 4 n ≡ (48 + w / 1000) ∷ (48 + w / 100 % 10) ∷ (48 + w / 10 % 10) ∷ (48 + w % 10) ∷ []
 unfolding lowest
-lowest-four n =
-    let a : n / 10 / 10 / 10 ≡ n / 1000 = omega arith in
-    let b : n / 10 / 10 ≡ n / 100 = omega arith in
-    rw (a, b)
+lowest-four n w e =
+    let thousands : n / 10 / 10 / 10 % 10 ≡ w / 1000 = omega arith in
+    let hundreds : n / 10 / 10 % 10 ≡ w / 100 % 10 = omega arith in
+    let tens : n / 10 % 10 ≡ w / 10 % 10 = omega arith in
+    let ones : n % 10 ≡ w % 10 = omega arith in
+    rw (thousands, hundreds, tens, ones)
 
 pub decimal-longer : (k n : ℕ) → 10 ^ k ≤ n → length (decimal n) ≡ length (decimal (n / 10 ^ k)) + k
 decimal-longer k n h = rw (decimal-split k n h, length-append, lowest-length)

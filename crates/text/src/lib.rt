@@ -26,10 +26,11 @@ fn put_four(out: &mut [u8], at: usize, v: u64)
     requires { ⌜ at + 4 ≤ length (now out) ⌝ }
     ensures { λ _. ⌜ now (out .exit) ≡ written (lowest 4 v) (now (out .entry)) at ⌝ }
 {
-    out[at] = 48 + (v / 1000 % 10) as u8;
-    out[at + 1] = 48 + (v / 100 % 10) as u8;
-    out[at + 2] = 48 + (v / 10 % 10) as u8;
-    out[at + 3] = 48 + (v % 10) as u8;
+    let w = v % 10000;
+    out[at] = 48 + (w / 1000) as u8;
+    out[at + 1] = 48 + (w / 100 % 10) as u8;
+    out[at + 2] = 48 + (w / 10 % 10) as u8;
+    out[at + 3] = 48 + (w % 10) as u8;
 }
 
 // Writes the number in decimal, with no leading zeros and 0 as `0`; the same. The digits go straight to their places, from the last to the first, and as long

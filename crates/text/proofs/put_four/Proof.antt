@@ -1,5 +1,5 @@
 -- Four bytes, one after the other.
-use mathlib.Core.Path.{_≡_, _∙_}
+use mathlib.Core.Path.{_≡_, refl, _∙_}
 use mathlib.Core.List.{[], _∷_, append-assoc}
 use Prim.Native.Nat.{suc, _+_, _/_, _%_}
 use native.Mathlib.Omega.{arith}
@@ -64,8 +64,9 @@ returns c =
     let one : a .at + 1 ≡ suc (a .at) = omega arith in
     let two : a .at + 2 ≡ suc (suc (a .at)) = omega arith in
     let three : a .at + 3 ≡ suc (suc (suc (a .at))) = omega arith in
-    let digits = (48 + a .v / 1000 % 10) ∷ (48 + a .v / 100 % 10) ∷ (48 + a .v / 10 % 10) ∷ (48 + a .v % 10) ∷ [] in
-    rw (lowest-four (a .v), one, two, three) (sets-eq digits (a .out .now) (a .at) (c .pre) ∙ append-assoc (take (a .at) (a .out .now)) digits _)
+    let w = a .v % 10000 in
+    let digits = (48 + w / 1000) ∷ (48 + w / 100 % 10) ∷ (48 + w / 10 % 10) ∷ (48 + w % 10) ∷ [] in
+    rw (lowest-four (a .v) w refl, one, two, three) (sets-eq digits (a .out .now) (a .at) (c .pre) ∙ append-assoc (take (a .at) (a .out .now)) digits _)
 
 pub put-four-spec : {M : Type 1} → statement M
 put-four-spec =
