@@ -2,12 +2,17 @@
 -- wrote gives the message back with nothing mended, and both decoders accept the same words.
 -- Assumes nothing.
 use mathlib.Core.Path.{_≡_, refl, sym, ap, ap₂, _∙_}
-use Prim.Native.Nat.{ℕ, _+_, _*_, _/_, _%_, _^_, _<_}
+use mathlib.Core.List.{List}
+use Prim.Native.Nat.{ℕ, _+_, _-_, _*_, _/_, _%_, _^_, _≤_, _<_}
 use native.Mathlib.Omega.{arith}
 use lib.Count.{ones}
+use lib.ListN.{length, take}
+use lib.Seq.{length-take-le}
 use lib.Arith.{digits-lt}
 use lib.Pow.{pow-add, high, shr-lt}
 use Rattle.poly.specs.Poly.{sum, times, Divides}
+use Rattle.poly.specs.Cells.{Cells, poly}
+use Rattle.poly.proofs.Cells.{cells-take, poly-take}
 use Rattle.poly.proofs.Sum.{sum-self, sum-shifted}
 use Rattle.poly.proofs.Degree.{degree-unique, times-lt}
 use Rattle.poly.proofs.Division.{lower-lt, remainder-unique}
@@ -15,7 +20,7 @@ use Rattle.poly.proofs.Multiples.{divides-systematic, divides-unique, times-can
 use Rattle.codes.specs.Code.{MessageLength, CodeWord}
 use Rattle.codes.specs.Mending.{Pattern, none, Mends}
 use Rattle.codes.specs.Coding.{Systematic, Product, First, Decoded}
-use Rattle.codes.specs.Calls.{MessageFits}
+use Rattle.codes.specs.Calls.{MessageFits, Written}
 use Rattle.codes.proofs.Patterns.{Laws, mends-unique}
 use Rattle.codes.proofs.Rules.{rule-laws}
 use Rattle.codes.proofs.Checking.{Allowed}
@@ -72,6 +77,15 @@ pub first-determines : {n g c c′ d : ℕ} → CodeWord n g c → CodeWord n g 
 first-determines {n} {g} {c} {c′} p q a b =
     let same : c / 2 ^ b .r ≡ c′ / 2 ^ b .r = ap (λ (r : ℕ). c / 2 ^ r) (degree-unique (b .degree) (a .degree)) ∙ sym (a .cells) ∙ b .cells in
     divides-unique c c′ (b .degree) (p .divides) (q .divides) same
+
+-- the first k cells of a word are its message, as a row of cells too
+pub first-message : {n g : ℕ} (c : List ℕ) (k : ℕ) → length c ≡ n → Cells c → MessageLength n g k → First g (poly (take k c)) (poly c)
+first-message c k e h m =
+    let rest : length c - k ≡ m .r = omega (arith, m .whole, e) in
+    record { r = m .r; degree = m .degree; cells = poly-take k c h ∙ ap (λ (x : ℕ). poly c / 2 ^ x) rest }
+
+pub first-written : (c : List ℕ) {k : ℕ} → Cells c → k ≤ length c → Written k (take k c) (poly (take k c))
+first-written c {k} h l = record { long = length-take-le k c l; cells = cells-take k c h; stands = refl }
 
 -- a code word's message fits k cells
 module _ {n g c d k : ℕ} (p : CodeWord n g c) (l : MessageLength n g k) where

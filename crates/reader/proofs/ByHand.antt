@@ -21,12 +21,12 @@ use Rattle.codes.specs.Coding.{First}
 use Rattle.codes.specs.Calls.{DecodesCells, slicesCheck, readableCheck}
 use Rattle.codes.proofs.Checking.{allowed-of}
 use Rattle.codes.proofs.Patterns.{mends-unique}
-use Rattle.codes.proofs.Coding.{allowed-laws, first-unique}
+use Rattle.codes.proofs.Coding.{allowed-laws, first-unique, first-message, first-written}
 use Rattle.codes.proofs.Settled.{written-unique}
 use Rattle.reader.specs.Reader.{Answers}
 use Rattle.reader.specs.Demand.{Reached, ByHand}
 use Rattle.reader.specs.declared.Reader.{Reader}
-use Rattle.reader.proofs.Answering.{first-message, first-written, from-start}
+use Rattle.reader.proofs.Answering.{from-start}
 
 -- the decoder's checks after those of the code and the rule
 abbrev later : ℕ → ℕ → ℕ → List ℕ → List ℕ → List Check
