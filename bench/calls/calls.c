@@ -175,61 +175,94 @@ static __attribute__((noipa)) plate_clocked c_clock(plate_reader d, uint8_t cell
 RUN(plate_clock)
 RUN(c_clock)
 
-/* ---- timing */
+/* ---- timing: every call in each round, so that all see the same machine; the best round of each counts */
 
-enum { ROUNDS = 5 };
+enum { ROUNDS = 300 };
+
+static const uint64_t one = 67, two = 4191;
+static uint64_t word, single;
+
+static uint64_t any(uint64_t turn) { return turn * UINT64_C(0x9E3779B97F4A7C15) >> 1; }
+static uint64_t wrong(uint64_t turn) { return word ^ UINT64_C(3) << turn % 62; }
+
+#define CALL(name, call)                                                                                                                               \
+    static uint64_t name(uint64_t turn)                                                                                                                \
+    {                                                                                                                                                  \
+        (void)turn;                                                                                                                                    \
+        return call;                                                                                                                                   \
+    }
+CALL(check_one, plate_check_rule(63, one, 1))
+CALL(c_check_one, c_check_rule(63, one, 1))
+CALL(check_two, plate_check_rule(63, two, 2))
+CALL(c_check_two, c_check_rule(63, two, 2))
+CALL(decode_any, plate_decode_systematic_number(63, two, 2, any(turn)).number)
+CALL(c_decode_any, c_decode(63, two, 2, any(turn)).number)
+CALL(decode_wrong, plate_decode_systematic_number(63, two, 2, wrong(turn)).message)
+CALL(c_decode_wrong, c_decode(63, two, 2, wrong(turn)).message)
+CALL(clock_one, run_plate_clock(one, 1, single))
+CALL(c_clock_one, run_c_clock(one, 1, single))
+CALL(clock_two, run_plate_clock(two, 2, wrong(0)))
+CALL(c_clock_two, run_c_clock(two, 2, wrong(0)))
+
+enum { CHECK_ONE, CHECK_TWO, DECODE_ANY, DECODE_WRONG, CLOCK_ONE, CLOCK_TWO, CALLS };
+
+/* what is called, the same in C, how often in a round, how many calls of the library each of these makes, and the best time of one */
+static struct {
+    uint64_t (*call[2])(uint64_t);
+    int turns, calls;
+    double best[2];
+} timed[CALLS] = {
+    {{check_one, c_check_one}, 1000, 1, {1e18, 1e18}},
+    {{check_two, c_check_two}, 300, 1, {1e18, 1e18}},
+    {{decode_any, c_decode_any}, 300, 1, {1e18, 1e18}},
+    {{decode_wrong, c_decode_wrong}, 310, 1, {1e18, 1e18}},
+    {{clock_one, c_clock_one}, 6, 126, {1e18, 1e18}},
+    {{clock_two, c_clock_two}, 2, 126, {1e18, 1e18}},
+};
 
 static volatile uint64_t sink;
 
-#define BEST(result, turns, call)                                                                                                                      \
-    do {                                                                                                                                               \
-        double best = 1e18;                                                                                                                            \
-        for (int round = 0; round < ROUNDS; round++) {                                                                                                 \
-            double from = now();                                                                                                                       \
-            for (uint64_t turn = 0; turn < turns; turn++)                                                                                              \
-                sink += (call);                                                                                                                        \
-            double took = (now() - from) / turns;                                                                                                      \
-            if (took < best)                                                                                                                           \
-                best = took;                                                                                                                           \
-        }                                                                                                                                              \
-        result = best;                                                                                                                                 \
-    } while (0)
+static void round_of(int i, int side)
+{
+    double from = now();
+    for (int turn = 0; turn < timed[i].turns; turn++)
+        sink += timed[i].call[side]((uint64_t)turn);
+    double took = (now() - from) / timed[i].turns / timed[i].calls;
+    if (took < timed[i].best[side])
+        timed[i].best[side] = took;
+}
 
-static void show(const char *what, double ours, double theirs) { printf("%-58s %9.1f ns  C %9.1f ns  ratio %.2f\n", what, ours, theirs, ours / theirs); }
+static void show(const char *what, int i, int without)
+{
+    double ours = timed[i].best[0], theirs = timed[i].best[1];
+    if (without >= 0) {
+        ours -= timed[without].best[0];
+        theirs -= timed[without].best[1];
+    }
+    printf("%-60s %7.1f ns  C %7.1f ns  ratio %.2f\n", what, ours, theirs, ours / theirs);
+}
 
 int main(void)
 {
-    double a, b, c, d;
-    const uint64_t one = 67, two = 4191;
-    BEST(a, 20000, plate_check_rule(63, one, 1));
-    BEST(b, 20000, c_check_rule(63, one, 1));
-    show("checks 1 to 5, n = 63, rule 1", a, b);
-    BEST(c, 20000, plate_check_rule(63, two, 2));
-    BEST(d, 20000, c_check_rule(63, two, 2));
-    show("checks 1 to 5, n = 63, rule 2", c, d);
-    double e, f;
-    BEST(e, 20000, plate_decode_systematic_number(63, two, 2, turn * UINT64_C(0x9E3779B97F4A7C15) >> 1).number);
-    BEST(f, 20000, c_decode(63, two, 2, turn * UINT64_C(0x9E3779B97F4A7C15) >> 1).number);
-    show("decoding of any word on numbers, n = 63, rule 2, checks too", e, f);
-    show("  the same after the checks", e - c, f - d);
-    uint64_t word = plate_encode_systematic_number(63, two, 0x1234567890ABC).value;
-    BEST(e, 20000, plate_decode_systematic_number(63, two, 2, word ^ UINT64_C(3) << turn % 62).message);
-    BEST(f, 20000, c_decode(63, two, 2, word ^ UINT64_C(3) << turn % 62).message);
-    show("decoding of a word with two wrong cells, checks too", e, f);
-    show("  the same after the checks", e - c, f - d);
-    word ^= 3;
-    uint64_t single = plate_encode_systematic_number(63, one, 0x1234567890ABC).value ^ 4;
-    if (run_plate_clock(two, 2, word) != run_c_clock(two, 2, word) || run_plate_clock(one, 1, single) != run_c_clock(one, 1, single)) {
-        printf("the clocked readers differ\n");
+    word = plate_encode_systematic_number(63, two, 0x1234567890ABC).value;
+    single = plate_encode_systematic_number(63, one, 0x1234567890ABC).value ^ 4;
+    if (clock_one(0) != c_clock_one(0) || clock_two(0) != c_clock_two(0) || decode_wrong(0) != c_decode_wrong(0)) {
+        printf("the readers differ\n");
         return 1;
     }
-    BEST(e, 200, run_plate_clock(one, 1, single));
-    BEST(f, 200, run_c_clock(one, 1, single));
-    show("a clock, n = 63, rule 1, the reader checked to be in form", e / 126, f / 126);
-    show("  the same without the checks 1 to 5", e / 126 - a, f / 126 - b);
-    BEST(e, 200, run_plate_clock(two, 2, word));
-    BEST(f, 200, run_c_clock(two, 2, word));
-    show("a clock, n = 63, rule 2, the reader checked to be in form", e / 126, f / 126);
-    show("  the same without the checks 1 to 5", e / 126 - c, f / 126 - d);
+    for (int round = 0; round < ROUNDS; round++)
+        for (int i = 0; i < CALLS; i++)
+            for (int side = 0; side < 2; side++)
+                round_of(i, side);
+    show("checks 1 to 5, n = 63, rule 1", CHECK_ONE, -1);
+    show("checks 1 to 5, n = 63, rule 2", CHECK_TWO, -1);
+    show("decoding of any word on numbers, n = 63, rule 2, checks too", DECODE_ANY, -1);
+    show("  the same after the checks", DECODE_ANY, CHECK_TWO);
+    show("decoding of a word with two wrong cells, checks too", DECODE_WRONG, -1);
+    show("  the same after the checks", DECODE_WRONG, CHECK_TWO);
+    show("a clock, n = 63, rule 1, the reader checked to be in form", CLOCK_ONE, -1);
+    show("  the same without the checks 1 to 5", CLOCK_ONE, CHECK_ONE);
+    show("a clock, n = 63, rule 2, the reader checked to be in form", CLOCK_TWO, -1);
+    show("  the same without the checks 1 to 5", CLOCK_TWO, CHECK_TWO);
     return 0;
 }

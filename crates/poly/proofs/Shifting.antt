@@ -50,12 +50,11 @@ module _ (p i : ℕ) {g r q s : ℕ} (h : Degree g r) (most : r ≤ 32) (pos : 0
   pub quotient-fits : i ≤ 64 → q < 2 ^ (64 - i) → q * 2 + (s * 2 + coefficient p (i - 1)) / 2 ^ r < 2 ^ (64 - (i - 1))
   quotient-fits l b = let e : 64 - (i - 1) ≡ suc (64 - i) = omega arith in rw e (omega (arith, digit-quotient))
 
-  pub digit-divided : {t : ℕ} → Where (Ready r g s (coefficient p (i - 1))) (t ≡ low r g s (coefficient p (i - 1))) (t ≡ 0)
-      → Divided (p / 2 ^ (i - 1)) g (q * 2 + (s * 2 + coefficient p (i - 1)) / 2 ^ r) t
-  digit-divided w =
+  pub digit-divided : Divided (p / 2 ^ (i - 1)) g (q * 2 + (s * 2 + coefficient p (i - 1)) / 2 ^ r) (low r g s (coefficient p (i - 1)))
+  digit-divided =
       let whole : p / 2 ^ i * 2 + coefficient p (i - 1) ≡ p / 2 ^ (i - 1) =
       ap (λ (k : ℕ). p / 2 ^ k * 2 + coefficient p (i - 1)) next ∙ div-digit p (i - 1) in
-      rw (w .holds digit-ready) (rw whole at (divided-low (coefficient p (i - 1)) (coefficient-lt p (i - 1)) h v))
+      rw whole at (divided-low (coefficient p (i - 1)) (coefficient-lt p (i - 1)) h v)
 
 -- ---- two results of one promise
 

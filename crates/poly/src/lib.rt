@@ -80,9 +80,10 @@ fn long_division(p: u64, g: u64, r: usize) -> Parts
     let mut i: usize = 64 - (u64::leading_zeros(p) as usize);
     while 0 < i {
         i -= 1;
-        let c = (p >> i) % 2;
-        q = q * 2 + ((s * 2 + c) >> r);
-        s = low_shift(r, g, s, c);
+        let t = s * 2 + (p >> i) % 2;
+        let f = t >> r;
+        q = q * 2 + f;
+        s = t ^ (f * g);
     }
     Parts {
         quotient: q,

@@ -1,16 +1,17 @@
 -- q and s are quotient and remainder of the digits taken so far, the highest first.
 use mathlib.Core.Path.{_≡_}
-use Prim.Native.Nat.{_-_, _/_, _^_, _≤_, _<_}
-use native.Mathlib.Nat.{div-one, div-eq-of-lt}
+use Prim.Native.Nat.{ℕ, _-_, _*_, _/_, _^_, _≤_, _<_}
+use native.Mathlib.Nat.{div-one, div-eq-of-lt, zero-mul, one-mul}
 use native.Mathlib.Omega.{arith}
 use borrow.Author.Needs.{needs}
 use lib.Count.{leadingZeros, leading-le, leading-length}
 use lib.Pow.{pow-pos, pow-mono}
 use Rattle.poly.specs.Poly.{coefficient, Divided}
-use Rattle.poly.specs.Shifts.{Ready}
+use Rattle.poly.specs.Shifts.{Ready, reduce}
+use Rattle.poly.proofs.Sum.{on-digit}
 use Rattle.poly.proofs.Degree.{degree-pos}
-use Rattle.poly.proofs.Division.{divided-lower, lower-zero}
-use Rattle.poly.proofs.Shifting.{ready-small, digit-ready, quotient-fits, digit-divided}
+use Rattle.poly.proofs.Division.{top-digit, divided-lower, lower-zero}
+use Rattle.poly.proofs.Shifting.{ready-small, low-fits, digit-ready, quotient-fits, digit-divided}
 use Rattle.poly.proofs.long_division.Statement.{statement}
 use Rattle.poly.proofs.long_division.Tie as tie
 
@@ -36,9 +37,6 @@ loop-holds c =
 sub-i-2 : tie.Need-sub-i-2 Inv-loop μ-loop
 sub-i-2 c = search needs
 
-shr-c : tie.Need-shr-c Inv-loop μ-loop
-shr-c c = search needs
-
 -- the next digit can be brought down
 ready : (c : tie.In-loop Inv-loop μ-loop)
     → Ready (c .before .before .args .r) (c .before .before .args .g) (c .before .loop .s) (coefficient (c .before .before .args .p) (c .before .loop .i - 1))
@@ -47,40 +45,45 @@ ready c =
     let b = c .before .before in
     digit-ready (b .args .p) (l .i) (b .pre .1) (b .pre .0) (omega arith) (l .inv .2)
 
-mul-q : tie.Need-mul-q Inv-loop μ-loop
-mul-q c =
-    omega (arith, pow-mono {i = 64 - c .before .loop .i} {j = 63} (omega arith), c .before .loop .inv .1)
+mul-t : tie.Need-mul-t Inv-loop μ-loop
+mul-t c = omega (arith, ready-small (ready c))
 
-mul-q-2 : tie.Need-mul-q-2 Inv-loop μ-loop
-mul-q-2 c =
-    omega (arith, ready-small (ready c))
+shr-t : tie.Need-shr-t Inv-loop μ-loop
+shr-t c = search needs
+
+add-t : tie.Need-add-t Inv-loop μ-loop
+add-t c = omega (arith, ready-small (ready c), ready c .input)
+
+shr-f : tie.Need-shr-f Inv-loop μ-loop
+shr-f c = omega (arith, c .before .before .pre .0)
+
+mul-q : tie.Need-mul-q Inv-loop μ-loop
+mul-q c = omega (arith, pow-mono {i = 64 - c .before .loop .i} {j = 63} (omega arith), c .before .loop .inv .1)
 
 add-q : tie.Need-add-q Inv-loop μ-loop
 add-q c =
-    omega (arith, ready-small (ready c), ready c .input)
-
-shr-q : tie.Need-shr-q Inv-loop μ-loop
-shr-q c = omega (arith, c .before .before .pre .0)
-
-add-q-2 : tie.Need-add-q-2 Inv-loop μ-loop
-add-q-2 c =
     let l = c .before .loop in
     let b = c .before .before in
     omega (arith, pow-mono {i = 64 - (l .i - 1)} {j = 64} (omega arith), quotient-fits (b .args .p) (l .i) (b .pre .1) (b .pre .0) (omega arith) (l .inv .2) (l .inv .0) (l .inv .1))
 
-low-shift-requires : tie.Need-low-shift-requires Inv-loop μ-loop
-low-shift-requires c κs = search needs
+mul-s : tie.Need-mul-s Inv-loop μ-loop
+mul-s c =
+    let b = c .before .before in
+    let g = b .args .g in
+    let fits = on-digit (λ (f : ℕ). f * g < 2 ^ 64) (omega (arith, zero-mul g)) (omega (arith, one-mul g, b .fits .g .fits)) _ (top-digit (b .args .r) _ (low-fits (ready c))) in
+    omega (arith, fits)
 
 loop-less : tie.Need-loop-less Inv-loop μ-loop
 loop-less c = search needs
 
 loop-again : tie.Need-loop-again Inv-loop μ-loop
+unfolding reduce
 loop-again c =
-    let l = c .before .before .loop in
-    let b = c .before .before .before in (
+    let l = c .before .loop in
+    let b = c .before .before in (
       omega arith,
       quotient-fits (b .args .p) (l .i) (b .pre .1) (b .pre .0) (omega arith) (l .inv .2) (l .inv .0) (l .inv .1),
-      digit-divided (b .args .p) (l .i) (b .pre .1) (b .pre .0) (omega arith) (l .inv .2) (c .low-shift .ensures),
+      digit-divided (b .args .p) (l .i) (b .pre .1) (b .pre .0) (omega arith) (l .inv .2),
     )
 
 returns : tie.Need-returns Inv-loop μ-loop
@@ -99,13 +102,13 @@ long-division-spec =
     sub-i
     loop-holds
     sub-i-2
-    shr-c
+    mul-t
+    shr-t
+    add-t
+    shr-f
     mul-q
-    mul-q-2
     add-q
-    shr-q
-    add-q-2
-    low-shift-requires
+    mul-s
     loop-less
     loop-again
     returns)
