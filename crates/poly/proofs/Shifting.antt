@@ -2,15 +2,15 @@
 -- Assumes nothing.
 use mathlib.Core.Path.{_≡_, sym, ap, _∙_}
 use Prim.Native.Nat.{ℕ, suc, _+_, _-_, _*_, _/_, _%_, _^_, _≤_, _<_}
-use native.Mathlib.Nat.{lt-of-lt-of-le}
+use native.Mathlib.Nat.{lt-of-lt-of-le, mul-one}
 use native.Mathlib.Omega.{arith}
 use lib.Dec.{lit<}
 use lib.Pow.{pow-pos, pow-mono, shl-exact}
 use Rattle.verdict.specs.Verdict.{Where}
 use Rattle.verdict.proofs.Verdict.{where-settled, where-value}
 use Rattle.poly.specs.Poly.{sum, coefficient, Degree, Divided, Remainder}
-use Rattle.poly.specs.Shifts.{Ready, low, high}
-use Rattle.poly.proofs.Sum.{sum-lt, on-digit}
+use Rattle.poly.specs.Shifts.{Ready, reduce, low, high}
+use Rattle.poly.proofs.Sum.{sum-lt, sum-digit, on-digit}
 use Rattle.poly.proofs.Degree.{degree-unique}
 use Rattle.poly.proofs.Division.{lower-lt, top-digit, divided-low, quotient-unique, remainder-of, remainder-unique}
 use Rattle.poly.proofs.Coefficient.{coefficient-lt, div-digit}
@@ -22,13 +22,23 @@ module _ {r g s c : ℕ} (h : Ready r g s c) where
   pub low-fits : s * 2 + c < 2 ^ suc r
   low-fits = omega (arith, h .register, h .input)
 
-  pub high-fits : sum (s * 2) (c * 2 ^ r) < 2 ^ suc r
-  high-fits =
-      sum-lt (suc r) (s * 2) (c * 2 ^ r) (omega (arith, h .register))
-      (on-digit (λ (x : ℕ). x * 2 ^ r < 2 ^ suc r) (omega (arith, pow-pos r)) (omega (arith, pow-pos r)) c (h .input))
+  -- an input at x^i, i up to r, as the machine shifts it
+  module _ {i : ℕ} (l : i ≤ r) where
+    exact : (c * 2 ^ i) % 2 ^ 64 ≡ c * 2 ^ i
+    exact = shl-exact 1 i 64 (h .input) (omega (arith, h .most))
 
-  pub high-shl : (c * 2 ^ r) % 2 ^ 64 ≡ c * 2 ^ r
-  high-shl = shl-exact 1 r 64 (h .input) (omega (arith, h .most))
+    pub input-fits : sum (s * 2) ((c * 2 ^ i) % 2 ^ 64) < 2 ^ suc r
+    input-fits =
+        rw exact
+        (sum-lt (suc r) (s * 2) (c * 2 ^ i) (omega (arith, h .register))
+        (on-digit (λ (x : ℕ). x * 2 ^ i < 2 ^ suc r) (omega (arith, pow-pos r)) (omega (arith, pow-mono l, pow-pos r)) c (h .input)))
+
+    pub input-shifted : {t : ℕ} → t ≡ reduce r g (sum (s * 2) ((c * 2 ^ i) % 2 ^ 64)) → t ≡ reduce r g (sum (s * 2) (c * 2 ^ i))
+    input-shifted e = rw exact at e
+
+  -- at the low side it is the lowest digit
+  pub input-low : {t : ℕ} → t ≡ reduce r g (sum (s * 2) (c * 2 ^ 0)) → t ≡ low r g s c
+  input-low e = rw (mul-one, sum-digit s c (h .input)) at e
 
 -- a remainder can be shifted with no input
 pub zero-ready : {p g r s : ℕ} → Degree g r → r ≤ 32 → Remainder p g s → Ready r g s 0

@@ -45,24 +45,29 @@ fn reduced(r: usize, g: u64, t: u64) -> u64
     t ^ g
 }
 
-// One shift of the register s of r stages by g, with input c at the low side; 0 where they do not fit together.
+// One shift of the register s of r stages by g, with input c at x^i; 0 where they do not fit together.
+fn shifted(r: usize, g: u64, s: u64, c: u64, i: usize) -> u64
+    requires { ⌜ i ≤ r ⌝ }
+    ensures { λ t. ⌜ Where (Ready r g s c) (t ≡ reduce r g (sum (s * 2) (c * 2 ^ i))) (t ≡ 0) ⌝ }
+{
+    if !ready(r, g, s, c) {
+        return 0;
+    }
+    reduced(r, g, (s * 2) ^ (c << i))
+}
+
+// The shift with the input at the low side.
 pub fn low_shift(r: usize, g: u64, s: u64, c: u64) -> u64
     ensures { λ t. ⌜ Where (Ready r g s c) (t ≡ low r g s c) (t ≡ 0) ⌝ }
 {
-    if !ready(r, g, s, c) {
-        return 0;
-    }
-    reduced(r, g, s * 2 + c)
+    shifted(r, g, s, c, 0)
 }
 
-// The same with the input at the high side.
+// At the high side.
 pub fn high_shift(r: usize, g: u64, s: u64, c: u64) -> u64
     ensures { λ t. ⌜ Where (Ready r g s c) (t ≡ high r g s c) (t ≡ 0) ⌝ }
 {
-    if !ready(r, g, s, c) {
-        return 0;
-    }
-    reduced(r, g, (s * 2) ^ (c << r))
+    shifted(r, g, s, c, r)
 }
 
 pub struct Parts {

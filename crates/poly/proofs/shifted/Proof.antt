@@ -5,9 +5,9 @@ use borrow.Author.Tests.{not-true, not-false}
 use mathlib.Core.Path.{refl}
 use Rattle.verdict.proofs.Verdict.{where-holds, where-fails}
 use Rattle.poly.specs.Shifts.{Ready}
-use Rattle.poly.proofs.Shifting.{ready-small, high-fits, high-shl}
-use Rattle.poly.proofs.high_shift.Statement.{statement}
-use Rattle.poly.proofs.high_shift.Tie as tie
+use Rattle.poly.proofs.Shifting.{ready-small, input-fits, input-shifted}
+use Rattle.poly.proofs.shifted.Statement.{statement}
+use Rattle.poly.proofs.shifted.Tie as tie
 
 ready-requires : tie.Need-ready-requires
 ready-requires c κs = search needs
@@ -23,14 +23,16 @@ mul-reduced : tie.Need-mul-reduced
 mul-reduced c = omega (arith, ready-small (fine c))
 
 shl-reduced : tie.Need-shl-reduced
-shl-reduced c = omega (arith, fine c .most)
+shl-reduced c = omega (arith, fine c .most, c .before .before .pre)
 
 reduced-requires : tie.Need-reduced-requires
-reduced-requires c κs = (fine c .most, rw (high-shl (fine c)) (high-fits (fine c)))
+reduced-requires c κs = (fine c .most, input-fits (fine c) (c .before .before .pre))
 
 returns-2 : tie.Need-returns-2
-returns-2 c = where-holds (fine (c .before)) (rw (high-shl (fine (c .before))) at (c .reduced .ensures))
+returns-2 c =
+    let f = fine (c .before) in
+    where-holds f (input-shifted f (c .before .before .before .pre) (c .reduced .ensures))
 
-pub high-shift-spec : {M : Type 1} → statement M
-high-shift-spec =
+pub shifted-spec : {M : Type 1} → statement M
+shifted-spec =
     tie.close (tie.spec ready-requires returns mul-reduced shl-reduced reduced-requires returns-2)
