@@ -1,18 +1,17 @@
--- What the checks of plain division tell: the register that the loops ask for, and what a call hands back.
+-- What the checks of plain division tell: the register that the loops ask for.
 -- Assumes nothing.
 use mathlib.Core.Path.{_≡_, refl}
-use mathlib.Core.List.{List, [], _∷_, _++_}
+use mathlib.Core.List.{List, [], _∷_}
 use mathlib.Core.Logic.{_⊎_, inl, inr}
 use Prim.Native.Nat.{ℕ, _<_}
 use native.Mathlib.Nat.{eq-zero-or-pos}
 use native.Mathlib.Omega.{arith}
-use lib.Dec.{T}
 use lib.ListN.{length}
 use Rattle.poly.specs.Poly.{Degree}
 use Rattle.poly.proofs.Degree.{degree-pos, degree-unique}
 use Rattle.cells.specs.Lent.{cellsCheck}
-use Rattle.verdict.specs.Verdict.{Check, Verdict, Settles, Where, order, among}
-use Rattle.verdict.proofs.Verdict.{verdict-passed, verdict-skip, settles-yes, settles-no}
+use Rattle.verdict.specs.Verdict.{Verdict, Where}
+use Rattle.verdict.proofs.Verdict.{verdict-passed, verdict-leave}
 use Rattle.division.specs.Division.{Divisor, dividendCheck, divisorCheck}
 use Rattle.division.specs.Within.{Stages, lentCheck, checks, Fit}
 
@@ -42,20 +41,6 @@ pub stages-divisor : {g r : ℕ} → Stages g r → 0 < r → Divisor g
 stages-divisor {r = r} h l = record { r = r; degree = h .degree l; least = l; most = h .most }
 
 -- ---- the checks of a call
-
--- one that passes can be left out wherever it stands
-verdict-leave : (c : Check) (cs ds : List Check) (m : ℕ) → c .passes → Verdict (cs ++ (c ∷ ds)) m → Verdict (cs ++ ds) m
-verdict-leave c [] ds m p v = verdict-skip c ds p v
-verdict-leave c (d ∷ cs) ds m p (inl a) = inl a
-verdict-leave c (d ∷ cs) ds m p (inr a) = inr (a .0, verdict-leave c cs ds m p (a .1))
-
--- what a call hands back that was refused, and that was done
-module _ (cs : List Check) {D R : Type 0} (o : T (among cs order)) where
-  pub settles-refused : {m n : ℕ} → Verdict cs m → (m ≡ 0 → ⊥) → n ≡ m → R → Settles cs n D R
-  settles-refused v f e r = rw e (settles-no cs o f v r)
-
-  pub settles-passed : {m : ℕ} → Verdict cs m → m ≡ 0 → D → Settles cs 0 D R
-  settles-passed v e d = settles-yes cs o (verdict-passed cs o v e) d
 
 -- where none fails, the loops can start, and the quotient has as many cells as the dividend
 pub checks-fit : (w : List ℕ) (g n m : ℕ) {r : ℕ} → Verdict (checks w g n) m → m ≡ 0 → Stages g r → Fit w g r × (n ≡ length w)

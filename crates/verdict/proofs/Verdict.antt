@@ -80,12 +80,24 @@ settles-yes cs o p d = record { ordered = o; verdict = passed-verdict cs p; done
 pub settles-no : (cs : List Check) {m : ℕ} {D R : Type 0} → T (among cs order) → (m ≡ 0 → ⊥) → Verdict cs m → R → Settles cs m D R
 settles-no cs o f v r = record { ordered = o; verdict = v; done = λ e. absurd (f e); refused = λ h. r }
 
+-- the number 0 says that it was done, and one written down that it was refused
+pub settles-passed : (cs : List Check) {m : ℕ} {D R : Type 0} → T (among cs order) → Verdict cs m → m ≡ 0 → D → Settles cs 0 D R
+settles-passed cs o v e = settles-yes cs o (verdict-passed cs o v e)
+
+pub settles-refused : (cs : List Check) {m : ℕ} {D R : Type 0} → T (among cs order) → Verdict cs (suc m) → R → Settles cs (suc m) D R
+settles-refused cs o = settles-no cs o (omega arith)
+
 -- ---- other lists of checks
 
--- a check that passes can be left out
+-- a check that passes can be left out, wherever it stands
 pub verdict-skip : (c : Check) (cs : List Check) {m : ℕ} → c .passes → Verdict (c ∷ cs) m → Verdict cs m
 verdict-skip c cs p (inl a) = absurd (a .0 p)
 verdict-skip c cs p (inr a) = a .1
+
+pub verdict-leave : (c : Check) (cs ds : List Check) (m : ℕ) → c .passes → Verdict (cs ++ (c ∷ ds)) m → Verdict (cs ++ ds) m
+verdict-leave c [] ds m p v = verdict-skip c ds p v
+verdict-leave c (d ∷ cs) ds m p (inl a) = inl a
+verdict-leave c (d ∷ cs) ds m p (inr a) = inr (a .0, verdict-leave c cs ds m p (a .1))
 
 -- and one that asks the same can stand in its place
 pub verdict-map : (c d : Check) (cs ds : List Check) {m : ℕ} → c .number ≡ d .number → (c .passes → d .passes) → (d .passes → c .passes)

@@ -1,7 +1,8 @@
 -- The checks give the number, and where none fails the register's outputs are the quotient.
 use mathlib.Core.Path.{refl}
 use borrow.Author.Needs.{needs}
-use Rattle.division.proofs.Checks.{settles-refused, settles-passed, checks-fit}
+use Rattle.verdict.proofs.Verdict.{settles-passed, settles-no}
+use Rattle.division.proofs.Checks.{checks-fit}
 use Rattle.division.proofs.divide.Statement.{statement}
 use Rattle.division.proofs.divide.Tie as tie
 
@@ -14,7 +15,7 @@ refused-requires c κs = search needs
 returns : tie.Need-returns
 returns c =
     let x = c .refused .ensures in
-    settles-refused _ tt (c .before .before .first-number .ensures) (c .before .if1 .taken) (x .0) (refl, x .1)
+    rw (x .0) (settles-no _ tt (c .before .if1 .taken) (c .before .before .first-number .ensures) (refl, x .1))
 
 stages-of-requires : tie.Need-stages-of-requires
 stages-of-requires c κs = search needs

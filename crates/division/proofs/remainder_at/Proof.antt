@@ -1,6 +1,7 @@
 -- The checks give the number, and where none fails the register of the side holds the remainder.
 use borrow.Author.Needs.{needs}
-use Rattle.division.proofs.Checks.{settles-refused, settles-passed, checks-fit, checks-unlent}
+use Rattle.verdict.proofs.Verdict.{settles-passed, settles-no}
+use Rattle.division.proofs.Checks.{checks-fit, checks-unlent}
 use Rattle.division.proofs.remainder_at.Statement.{statement}
 use Rattle.division.proofs.remainder_at.Tie as tie
 
@@ -15,7 +16,7 @@ returns c =
     let before = c .before .before in
     let w = before .before .before .args .dividend .now in
     let x = c .refused .ensures in
-    settles-refused _ tt (checks-unlent w _ _ (before .first-number .ensures)) (c .before .if1 .taken) (x .0) (x .1)
+    rw (x .0) (settles-no _ tt (c .before .if1 .taken) (checks-unlent w _ _ (before .first-number .ensures)) (x .1))
 
 stages-of-requires : tie.Need-stages-of-requires
 stages-of-requires c κs = search needs
