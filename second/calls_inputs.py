@@ -213,14 +213,13 @@ def two_readings(draw):
 
 
 def every_word(draw):
-    """Every word of every allowed code of up to seven cells, under every rule that it carries."""
+    """Every word of every allowed code of up to seven cells: under every rule by the clocked reader, and under those that it carries by the decoders too."""
     for n in range(2, 8):
         for g in allowed(n):
             for rule in (0, 1, 2):
-                if carries(n, g, rule):
-                    for word in range(2 ** n):
-                        for letter in "MQW":
-                            yield line(letter, n, g, rule, cells(word, n), draw.lent(message_length(n, g)))
+                for word in range(2 ** n):
+                    for letter in "MQW" if carries(n, g, rule) else "W":
+                        yield line(letter, n, g, rule, cells(word, n), draw.lent(message_length(n, g)))
 
 
 def lines_of_calls():

@@ -35,12 +35,13 @@ echo "tests: the programs that README.md shows are as expected"
 sample='7 E 0 0 105
 8 D 0 1 13
 9 D 0 2 28
-10 D 5 0 0'
+10 D 5 0 0
+short 3'
 [ "$(./strips <examples/plates.bin)" = "$sample" ]
-[ -z "$(./strips </dev/null)" ]
+./strips </dev/null >"$out/lines"
+[ ! -s "$out/lines" ]
 [ "$(printf 'abc' | ./strips)" = "short 3" ]
-[ "$( (cat examples/plates.bin; printf 'abc') | ./strips)" = "$sample
-short 3" ]
+[ "$(head -c 64 examples/plates.bin | ./strips)" = "$(echo "$sample" | head -n 4)" ]
 [ "$( (head -c 21 examples/plates.bin; sleep 1; tail -c +22 examples/plates.bin) | ./strips)" = "$sample" ]
 python3 -B bench/strips/records.py 16385 >"$out/records"
 gcc -O2 -Wall -Wextra -Werror -o "$out/strips" bench/strips/strips.c
@@ -92,7 +93,7 @@ echo "tests: strips is as expected"
 
 # The count of lines to believe that docs/READING.md names is that of the files it lists.
 believed=0
-for link in $(sed -n '/^1\. /,/^\*\*The register/p' docs/READING.md | grep -o '(\.\./crates/[a-zA-Z/]*\.antt)' | tr -d '()' | sort -u); do
+for link in $(sed -n '/^1\. /,/^$/p' docs/READING.md | grep -o '(\.\./crates/[a-zA-Z/]*\.antt)' | tr -d '()' | sort -u); do
     believed=$((believed + $(sed 's/--.*//' "docs/$link" | grep -v '^ *$' | grep -vc '^use ')))
 done
 grep -q " have $believed lines" docs/READING.md || { echo "tests: the files that docs/READING.md lists have $believed lines"; exit 1; }

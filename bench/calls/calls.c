@@ -175,12 +175,22 @@ static __attribute__((noipa)) plate_clocked c_clock(plate_reader d, uint8_t cell
 RUN(plate_clock)
 RUN(c_clock)
 
+/* A reader that has taken half of a word, and a clock that it refuses: with a 2 for a cell it finds the reader in form and does no more. */
+static plate_reader half(uint64_t g, uint64_t rule, uint64_t w)
+{
+    plate_reader d = plate_start(63, g, rule).reader;
+    for (int i = 0; i < 31; i++)
+        d = plate_clock(d, w >> (62 - i) & 1).reader;
+    return d;
+}
+
 /* ---- timing: every call in each round, so that all see the same machine; the best round of each counts */
 
 enum { ROUNDS = 300 };
 
 static const uint64_t one = 67, two = 4191;
 static uint64_t word, single;
+static plate_reader half_one, half_two;
 
 static uint64_t any(uint64_t turn) { return turn * UINT64_C(0x9E3779B97F4A7C15) >> 1; }
 static uint64_t wrong(uint64_t turn) { return word ^ UINT64_C(3) << turn % 62; }
@@ -204,7 +214,12 @@ CALL(c_clock_one, run_c_clock(one, 1, single))
 CALL(clock_two, run_plate_clock(two, 2, wrong(0)))
 CALL(c_clock_two, run_c_clock(two, 2, wrong(0)))
 
-enum { CHECK_ONE, CHECK_TWO, DECODE_ANY, DECODE_WRONG, CLOCK_ONE, CLOCK_TWO, CALLS };
+CALL(form_one, plate_clock(half_one, 2).number)
+CALL(c_form_one, c_clock(half_one, 2).number)
+CALL(form_two, plate_clock(half_two, 2).number)
+CALL(c_form_two, c_clock(half_two, 2).number)
+
+enum { CHECK_ONE, CHECK_TWO, DECODE_ANY, DECODE_WRONG, CLOCK_ONE, CLOCK_TWO, FORM_ONE, FORM_TWO, CALLS };
 
 /* what is called, the same in C, how often in a round, how many calls of the library each of these makes, and the best time of one */
 static struct {
@@ -218,6 +233,8 @@ static struct {
     {{decode_wrong, c_decode_wrong}, 310, 1, {1e18, 1e18}},
     {{clock_one, c_clock_one}, 6, 126, {1e18, 1e18}},
     {{clock_two, c_clock_two}, 2, 126, {1e18, 1e18}},
+    {{form_one, c_form_one}, 1000, 1, {1e18, 1e18}},
+    {{form_two, c_form_two}, 300, 1, {1e18, 1e18}},
 };
 
 static volatile uint64_t sink;
@@ -246,6 +263,12 @@ int main(void)
 {
     word = plate_encode_systematic_number(63, two, 0x1234567890ABC).value;
     single = plate_encode_systematic_number(63, one, 0x1234567890ABC).value ^ 4;
+    half_one = half(one, 1, single);
+    half_two = half(two, 2, word);
+    if (form_one(0) != 7 || form_two(0) != 7 || c_form_one(0) != 7 || c_form_two(0) != 7) {
+        printf("a clock with a 2 is not refused by number 7\n");
+        return 1;
+    }
     if (clock_one(0) != c_clock_one(0) || clock_two(0) != c_clock_two(0) || decode_wrong(0) != c_decode_wrong(0)) {
         printf("the readers differ\n");
         return 1;
@@ -261,8 +284,12 @@ int main(void)
     show("decoding of a word with two wrong cells, checks too", DECODE_WRONG, -1);
     show("  the same after the checks", DECODE_WRONG, CHECK_TWO);
     show("a clock, n = 63, rule 1, the reader checked to be in form", CLOCK_ONE, -1);
-    show("  the same without the checks 1 to 5", CLOCK_ONE, CHECK_ONE);
+    show("  being in form alone", FORM_ONE, -1);
+    show("  being in form without the checks 1 to 5", FORM_ONE, CHECK_ONE);
+    show("  the clock without being in form", CLOCK_ONE, FORM_ONE);
     show("a clock, n = 63, rule 2, the reader checked to be in form", CLOCK_TWO, -1);
-    show("  the same without the checks 1 to 5", CLOCK_TWO, CHECK_TWO);
+    show("  being in form alone", FORM_TWO, -1);
+    show("  being in form without the checks 1 to 5", FORM_TWO, CHECK_TWO);
+    show("  the clock without being in form", CLOCK_TWO, FORM_TWO);
     return 0;
 }

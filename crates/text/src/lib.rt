@@ -33,8 +33,8 @@ fn put_four(out: &mut [u8], at: usize, v: u64)
     out[at + 3] = 48 + (w % 10) as u8;
 }
 
-// Writes the number in decimal, with no leading zeros and 0 as `0`; the same. The digits go straight to their places, from the last to the first, and as long
-// as there are more than four, four at a time.
+// The same with a number in decimal, with no leading zeros and 0 as `0`. The digits go straight to their places, from the last to the first, four at a
+// time while there are more than four.
 pub fn put_number(out: &mut [u8], at: usize, value: u64) -> usize
     ensures { λ r. ⌜ Puts (decimal value) (now (out .entry)) at (now (out .exit)) r ⌝ }
 {

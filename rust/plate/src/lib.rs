@@ -192,28 +192,31 @@ pub fn decode_product(n: usize, g: u64, rule: u64, word: &[u8], message: &mut [u
 pub mod numbers {
     use super::*;
 
+    /// The systematic word of a message below 2^k.
     pub fn encode_systematic(n: usize, g: u64, message: u64) -> Result<u64, Refused> {
         let x = unsafe { plate_encode_systematic_number(n, g, message) };
         done(x.number, x.value)
     }
 
+    /// Its product word.
     pub fn encode_product(n: usize, g: u64, message: u64) -> Result<u64, Refused> {
         let x = unsafe { plate_encode_product_number(n, g, message) };
         done(x.number, x.value)
     }
 
+    /// The remainder of a word below 2^n.
     pub fn remainder(n: usize, g: u64, word: u64) -> Result<u64, Refused> {
         let x = unsafe { plate_remainder_number(n, g, word) };
         done(x.number, x.value)
     }
 
-    /// The message and the number of cells mended.
+    /// The message, by the systematic rule, and the number of cells mended.
     pub fn decode_systematic(n: usize, g: u64, rule: u64, word: u64) -> Result<(u64, u64), Refused> {
         let x = unsafe { plate_decode_systematic_number(n, g, rule, word) };
         done(x.number, (x.message, x.mended))
     }
 
-    /// The message and the number of cells mended.
+    /// The same by the product rule.
     pub fn decode_product(n: usize, g: u64, rule: u64, word: u64) -> Result<(u64, u64), Refused> {
         let x = unsafe { plate_decode_product_number(n, g, rule, word) };
         done(x.number, (x.message, x.mended))
@@ -221,6 +224,7 @@ pub mod numbers {
 }
 
 impl Reader {
+    /// A reader that stores zeros.
     pub fn start(n: usize, g: u64, rule: u64) -> Result<Reader, Refused> {
         let x = unsafe { plate_start(n, g, rule) };
         done(x.number, x.reader)
