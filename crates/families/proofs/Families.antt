@@ -15,7 +15,7 @@ use Rattle.poly.proofs.Degree.{degree-of, degree-unique, power-lt}
 use Rattle.poly.proofs.Division.{divide-multiple}
 use Rattle.verdict.specs.Verdict.{Passed, Tells}
 use Rattle.codes.specs.Mending.{Pattern, Carries, ruleChecks}
-use Rattle.codes.proofs.Checking.{Code, allowed-of, generator-pos}
+use Rattle.codes.proofs.Checking.{Code, allowed-of, of-allowed, generator-pos}
 use Rattle.families.specs.Families.{lengths, generators, pairs, numbered, lengthOf, generatorOf, pairsOf, Shown}
 use Rattle.families.proofs.Below.{and-left, and-right, eachBelow, each-at}
 use Rattle.families.proofs.Carrying.{carries, carries-tells}
@@ -118,7 +118,7 @@ family-shown i l =
     }
   where
     rule-passed : {n g : ℕ} (rule : ℕ) → Code n g → rule ≤ 2 → Carries (Pattern n rule) g → Passed (ruleChecks n g rule)
-    rule-passed rule c k s = ((c .least, c .most), (c .generator, (c .divides, (k, (s, tt)))))
+    rule-passed rule c k s = of-allowed (record { code = c; known = k; carried = s })
 
 -- ---- what follows for each family
 
