@@ -19,14 +19,14 @@ use Rattle.poly.proofs.Cells.{length-cells, cells-cells, poly-cells}
 use Rattle.verdict.proofs.Verdict.{passed-on, settles-yes, settles-no, verdict-on}
 use Rattle.cells.specs.Lent.{cellsCheck}
 use Rattle.division.specs.Division.{dividendCheck, divisorCheck, quotientCheck}
-use Rattle.codes.specs.Code.{codeChecks}
 use Rattle.codes.specs.Mending.{Pattern, Mends, ruleChecks}
 use Rattle.codes.specs.Coding.{Systematic, Product, First}
-use Rattle.codes.specs.Calls.{MessageFits, messageCheck, wordCheck, readableCheck, Encodes, Leaves, Decodes}
+use Rattle.codes.specs.Calls.{MessageFits, wordCheck, readableCheck, Encodes, Leaves, Decodes}
 use Rattle.codes.specs.Row.{patternAt, patternCount}
 use Rattle.codes.proofs.Patterns.{mends-remainder}
 use Rattle.codes.proofs.Row.{row-pattern, pattern-row}
-use Rattle.codes.proofs.Checking.{Code, of-code, of-allowed, Allowed, allowed-of, generator-pos}
+use Rattle.codes.proofs.Checking.{Code, of-allowed, Allowed, allowed-of, generator-pos}
+use Rattle.codes.proofs.Calls.{encodes-done, leaves-done}
 use Rattle.codes.proofs.Coding.{systematic-word, systematic-first}
 use Rattle.families.specs.Families.{pairs, lengthOf, generatorOf, pairsOf, Shown}
 use Rattle.families.proofs.Families.{family-shown}
@@ -190,17 +190,10 @@ quotient n p g q s t lent size =
 -- a message that fits, and a word of n cells, on a family's code
 module _ (f : ℕ) (t : T (family f)) where
   encoded : (Word : ℕ → ℕ → ℕ → Type 0) {d w : ℕ} → T (fits f d) → Word (generatorOf f) d w → Encodes Word (lengthOf f) (generatorOf f) d 0 w
-  encoded Word {d} l h =
-      let last = messageCheck (lengthOf f) (generatorOf f) d ∷ [] in
-      settles-yes (codeChecks (lengthOf f) (generatorOf f) ++ last) tt
-      (passed-on (codeChecks (lengthOf f) (generatorOf f)) last (of-code (code f t)) (message f t d l, tt)) h
+  encoded Word {d} l = encodes-done (code f t) Word (message f t d l)
 
   left : (w s : ℕ) → T (ltb w (2 ^ lengthOf f)) → divide w (generatorOf f) .remainder ≡ s → Leaves (lengthOf f) (generatorOf f) w 0 s
-  left w s l e =
-      let last = wordCheck (lengthOf f) w ∷ [] in
-      settles-yes (codeChecks (lengthOf f) (generatorOf f) ++ last) tt
-      (passed-on (codeChecks (lengthOf f) (generatorOf f)) last (of-code (code f t)) (ltb→lt w (2 ^ lengthOf f) l, tt))
-      (rw e at (divide-remainder w (pos f t)))
+  left w s l e = leaves-done (code f t) (ltb→lt w (2 ^ lengthOf f) l) (rw e at (divide-remainder w (pos f t)))
 
   module _ (rule : ℕ) (c : T (carried f rule)) (w : ℕ) (l : T (ltb w (2 ^ lengthOf f))) where
     a : Allowed (lengthOf f) (generatorOf f) rule

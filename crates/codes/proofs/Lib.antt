@@ -3,6 +3,7 @@ pub mod Patterns
 pub mod Rules
 pub mod Row
 pub mod Checking
+pub mod Calls
 pub mod Coding
 pub mod Settled
 pub mod Cutting

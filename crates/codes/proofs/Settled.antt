@@ -9,14 +9,15 @@ use Rattle.poly.specs.Cells.{poly}
 use Rattle.poly.proofs.Cells.{poly-injective}
 use Rattle.poly.proofs.Division.{remainder-unique}
 use Rattle.verdict.specs.Verdict.{Check, Passed}
-use Rattle.verdict.proofs.Verdict.{verdict-settled, settled, settles-done, passed-on, passed-first}
+use Rattle.verdict.proofs.Verdict.{verdict-settled, settled, settles-done, passed-first}
 use Rattle.cells.specs.Lent.{cellsCheck}
 use Rattle.codes.specs.Code.{CodeWord, codeChecks}
 use Rattle.codes.specs.Mending.{Pattern, ruleChecks}
 use Rattle.codes.specs.Coding.{Systematic, Product, First, Decoded}
 use Rattle.codes.specs.Calls.{MessageFits, messageCheck, wordCheck, readableCheck, slicesCheck, sliceCheck, Encodes, Leaves, Decodes, EncodesCells, LeavesCells, DecodesCells, Written}
 use Rattle.codes.proofs.Patterns.{mends-unique}
-use Rattle.codes.proofs.Checking.{Allowed, allowed-of, of-code, of-allowed}
+use Rattle.codes.proofs.Checking.{Allowed, allowed-of}
+use Rattle.codes.proofs.Calls.{message-passed, readable-passed}
 use Rattle.codes.proofs.Coding.{Single, first-single, product-single, systematic-unique, systematic-first, systematic-word, product-word, allowed-laws, allowed-decoded, decoded-self, mends-self}
 
 -- cells that stand for one number are the same
@@ -111,7 +112,7 @@ decoders-agree {n} {g} {rule} {w} a b =
 module _ (Says : ℕ → ℕ → ℕ → Type 0) (says : Single Says) {n g rule : ℕ} (a : Allowed n g rule) where
   pub decodes-code : {c d number e k : ℕ} → CodeWord n g c → Says g d c → Decodes Says n g rule c number e k → (number ≡ 0) × (e ≡ d) × (k ≡ 0)
   decodes-code {c} h m x =
-      let t = settles-done x (passed-on (ruleChecks n g rule) (wordCheck n c ∷ readableCheck n g rule c ∷ []) (of-allowed a) (h .below, ((c, mends-self a h), tt))) in
+      let t = settles-done x (readable-passed a (h .below) (c, mends-self a h)) in
       let s = decoded-self a Says says h m (t .1) in
       (t .0, s .0, s .1)
 
@@ -119,14 +120,14 @@ module _ (Says : ℕ → ℕ → ℕ → Type 0) (says : Single Says) {n g rule 
 module _ {n g rule : ℕ} (a : Allowed n g rule) where
   pub systematic-back : {d word message mended number number′ : ℕ} → MessageFits n g d → Encodes Systematic n g d number word
       → Decodes First n g rule word number′ message mended → (number ≡ 0) × (number′ ≡ 0) × (message ≡ d) × (mended ≡ 0)
-  systematic-back {d} f x y =
-      let e = settles-done x (passed-on (codeChecks n g) (messageCheck n g d ∷ []) (of-code (a .code)) (f, tt)) in
+  systematic-back f x y =
+      let e = settles-done x (message-passed (a .code) f) in
       let t = decodes-code First first-single a (systematic-word (e .1) f) (systematic-first (e .1)) y in
       (e .0, t .0, t .1, t .2)
 
   pub product-back : {d word message mended number number′ : ℕ} → MessageFits n g d → Encodes Product n g d number word
       → Decodes Product n g rule word number′ message mended → (number ≡ 0) × (number′ ≡ 0) × (message ≡ d) × (mended ≡ 0)
-  product-back {d} {word} f x y =
-      let e = settles-done x (passed-on (codeChecks n g) (messageCheck n g d ∷ []) (of-code (a .code)) (f, tt)) in
+  product-back f x y =
+      let e = settles-done x (message-passed (a .code) f) in
       let t = decodes-code Product product-single a (rw (e .1) (product-word f)) (e .1) y in
       (e .0, t .0, t .1, t .2)

@@ -2,7 +2,7 @@
 -- Assumes nothing.
 use mathlib.Core.Path.{_≡_, refl, sym, ap, _∙_}
 use mathlib.Core.HLevel.{Discrete}
-use mathlib.Core.List.{List, [], _∷_, _++_, List-discrete}
+use mathlib.Core.List.{List, [], _∷_, List-discrete}
 use mathlib.Core.Logic.{_⊎_, inl, inr}
 use Prim.Native.Nat.{ℕ, _^_, _≤_, _<_}
 use native.Mathlib.Decide.{ℕ-discrete}
@@ -13,12 +13,13 @@ use Rattle.poly.specs.Poly.{sum}
 use Rattle.poly.specs.Cells.{Cells, poly}
 use Rattle.poly.proofs.Cells.{poly-lt}
 use Rattle.verdict.specs.Verdict.{Check, Verdict, Passed, Where}
-use Rattle.verdict.proofs.Verdict.{verdict-settled, passed-verdict, passed-on, passed-first, passed-last, verdict-stop, verdict-on}
+use Rattle.verdict.proofs.Verdict.{verdict-settled, passed-verdict, settles-done, passed-on, passed-first, passed-last, verdict-stop, verdict-on}
 use Rattle.codes.specs.Mending.{Pattern, Mends, Readable, ruleChecks}
 use Rattle.codes.specs.Coding.{First, Decoded}
 use Rattle.codes.specs.Calls.{wordCheck, readableCheck, Decodes}
 use Rattle.codes.proofs.Patterns.{mends-unique}
 use Rattle.codes.proofs.Checking.{Allowed, allowed-of, of-allowed}
+use Rattle.codes.proofs.Calls.{readable-passed}
 use Rattle.codes.proofs.Coding.{allowed-laws, first-unique}
 use Rattle.codes.proofs.Cutting.{first-number, first-passed}
 use Rattle.numbers.specs.declared.Decoding.{Decoding}
@@ -42,10 +43,7 @@ module _ {n g rule : ℕ} (a : Allowed n g rule) where
 
     pub unread : (x .number ≡ 0 → ⊥) → Readable (Pattern n rule) n g (poly w) → ⊥
     unread f r =
-        let last = wordCheck n p ∷ readableCheck n g rule p ∷ [] in
-        let below : p < 2 ^ n = rw (stands, ← long) (poly-lt w fine) in
-        f (verdict-settled (ruleChecks n g rule ++ last) (h .verdict)
-        (passed-verdict (ruleChecks n g rule ++ last) (passed-on (ruleChecks n g rule) last (of-allowed a) (below, (rw stands r, tt)))))
+        let below : p < 2 ^ n = rw (stands, ← long) (poly-lt w fine) in f (settles-done h (readable-passed a below (rw stands r)) .0)
 
   pub decoded-readable : {w d k : ℕ} → Decoded (Pattern n rule) (First g) n g w d k → Readable (Pattern n rule) n g w
   decoded-readable r = (r .code, r .mends)

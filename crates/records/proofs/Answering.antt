@@ -21,9 +21,10 @@ use Rattle.verdict.proofs.Verdict.{settles-yes, settles-no, verdict-on, tells-y
 use Rattle.codes.specs.Code.{codeChecks}
 use Rattle.codes.specs.Mending.{Pattern, Carries, Mends, carryChecks, ruleChecks}
 use Rattle.codes.specs.Coding.{Systematic, Product}
-use Rattle.codes.specs.Calls.{MessageFits, Encodes, messageCheck, wordCheck, readableCheck}
+use Rattle.codes.specs.Calls.{MessageFits, wordCheck, readableCheck}
 use Rattle.codes.specs.Row.{patternAt, patternCount}
 use Rattle.codes.proofs.Checking.{Code, of-code, left-nothing, generator-pos}
+use Rattle.codes.proofs.Calls.{encodes-done, leaves-done, readable-passed}
 use Rattle.codes.proofs.Patterns.{mends-remainder, pattern-mends}
 use Rattle.codes.proofs.Rules.{rule-laws}
 use Rattle.families.specs.Families.{generators, pairs}
@@ -77,25 +78,20 @@ module _ {n g r : ℕ} (c : Code n g) (h : Degree g r) where
 
   -- ---- encoders, and the remainder
 
-  encodes-done : (Word : ℕ → ℕ → ℕ → Type 0) (d : ℕ) {v : ℕ} → MessageFits n g d → Word g d v → Encodes Word n g d 0 v
-  encodes-done Word d m w =
-      settles-yes (codeChecks n g ++ (messageCheck n g d ∷ [])) tt ((c .least, c .most), (c .generator, (c .divides, (m, tt)))) w
-
   pub answers-systematic : (rule d : ℕ) {s : ℕ} → rule ≡ 0 → d < 2 ^ (n - r) → Remainder (d * 2 ^ r) g s
       → Answered E n g rule d 0 0 (sum (d * 2 ^ r) s)
   answers-systematic rule d {s} o z v =
       let m = message-below d z in
       called E o m (omega arith) (omega arith)
-      (encodes-done Systematic d m (record { r = r; degree = h; rest = s; remainder = v; word = refl }), refl)
+      (encodes-done c Systematic m (record { r = r; degree = h; rest = s; remainder = v; word = refl }), refl)
 
   pub answers-product : (rule d : ℕ) {v : ℕ} → rule ≡ 0 → d < 2 ^ (n - r) → v ≡ times d g → Answered P n g rule d 0 0 v
   answers-product rule d o z e =
-      let m = message-below d z in called P o m (omega arith) (omega arith) (encodes-done Product d m e, refl)
+      let m = message-below d z in called P o m (omega arith) (omega arith) (encodes-done c Product m e, refl)
 
   pub answers-remainder : (rule w : ℕ) {s : ℕ} → rule ≡ 0 → w < 2 ^ n → Remainder w g s → Answered S n g rule w 0 0 s
   answers-remainder rule w o l v =
-      called S o l (omega arith) (omega arith)
-      (settles-yes (codeChecks n g ++ (wordCheck n w ∷ [])) tt ((c .least, c .most), (c .generator, (c .divides, (l, tt)))) v, refl)
+      called S o l (omega arith) (omega arith) (leaves-done c l v, refl)
 
   -- ---- decoders: the message of the mended word
 
@@ -160,7 +156,7 @@ module _ {n g : ℕ} (c : Code n g) (rule w : ℕ) where
     mending-found {p} v q u e =
         let m : Mends (Pattern n rule) n g w (sum w p) = pattern-mends (rule-laws rule (c .least) carried) (c .generator .odd) below q v u in
         settles-yes (ruleChecks n g rule ++ (wordCheck n w ∷ readableCheck n g rule w ∷ [])) tt
-        ((c .least, c .most), (c .generator, (c .divides, (l, (carried, (below, ((sum w p, m), tt))))))) (m, rw sum-back e)
+        (readable-passed (record { code = c; known = l; carried = carried }) below (sum w p, m)) (m, rw sum-back e)
 
 -- ---- the families
 
