@@ -2,7 +2,7 @@
 -- Assumes nothing.
 use mathlib.Core.Path.{_≡_, refl, sym, _∙_}
 use mathlib.Core.Bool.{Bool, true, false, not, _&&_, _||_}
-use mathlib.Core.List.{List, [], _∷_, _++_}
+use mathlib.Core.List.{List, [], _∷_}
 use mathlib.Core.Logic.{_⊎_, inl, inr}
 use Prim.Native.Nat.{ℕ, zero, suc, _-_, _*_, _^_, _<_}
 use native.Mathlib.Nat.{mod-eq-of-lt, le-refl, le-step, eq-or-lt-of-le, le-of-suc-le-suc, not-suc-le-zero}
@@ -10,24 +10,24 @@ use native.Mathlib.Omega.{arith}
 use lib.Count.{ones}
 use lib.Dec.{T, T-not, eqb, ltb, eqb→eq, ltb→lt, eqb-refl}
 use lib.ListN.{getD}
-use Rattle.poly.specs.Poly.{sum, times, Divided}
+use Rattle.poly.specs.Poly.{sum, times, Divided, Remainder}
 use Rattle.poly.specs.Cells.{cells}
 use Rattle.poly.specs.Shifts.{degree, divide}
 use Rattle.poly.proofs.Degree.{degree-of, degree-unique}
 use Rattle.poly.proofs.Division.{divide-divided, divide-remainder, remainder-unique}
 use Rattle.poly.proofs.Cells.{length-cells, cells-cells, poly-cells}
-use Rattle.verdict.proofs.Verdict.{passed-on, settles-yes, settles-no, verdict-on}
+use Rattle.verdict.proofs.Verdict.{settles-yes}
 use Rattle.cells.specs.Lent.{cellsCheck}
 use Rattle.division.specs.Division.{dividendCheck, divisorCheck, quotientCheck}
-use Rattle.codes.specs.Mending.{Pattern, Mends, ruleChecks}
+use Rattle.codes.specs.Mending.{Pattern, Mends}
 use Rattle.codes.specs.Coding.{Systematic, Product, First}
-use Rattle.codes.specs.Calls.{MessageFits, wordCheck, readableCheck, Encodes, Leaves, Decodes}
+use Rattle.codes.specs.Calls.{MessageFits, Encodes, Leaves, Decodes}
 use Rattle.codes.specs.Row.{patternAt, patternCount}
-use Rattle.codes.proofs.Patterns.{mends-remainder}
 use Rattle.codes.proofs.Row.{row-pattern, pattern-row}
-use Rattle.codes.proofs.Checking.{Code, of-allowed, Allowed, allowed-of, generator-pos}
+use Rattle.codes.proofs.Checking.{Code, Allowed, allowed-of, generator-pos}
 use Rattle.codes.proofs.Calls.{encodes-done, leaves-done}
 use Rattle.codes.proofs.Coding.{systematic-word, systematic-first}
+use Rattle.codes.proofs.Finding.{code-found, none-found, done-decodes, refused-decodes}
 use Rattle.families.specs.Families.{pairs, lengthOf, generatorOf, pairsOf, Shown}
 use Rattle.families.proofs.Families.{family-shown}
 use Rattle.cases.specs.Cases.{Case, divides, systematic, product, remains, mends, refuses, Holds, Every, starred}
@@ -206,31 +206,25 @@ module _ (f : ℕ) (t : T (family f)) where
     mended d count k s e =
         let x = some-at (patternCount (lengthOf f) rule) (λ i. eqb (patternAt (lengthOf f) i) (sum w (wordOf (generatorOf f) d))) s in
         let h = word f t d in
-        let last = wordCheck (lengthOf f) w ∷ readableCheck (lengthOf f) (generatorOf f) rule w ∷ [] in
         let m : Mends (Pattern (lengthOf f) rule) (lengthOf f) (generatorOf f) w (wordOf (generatorOf f) d) = record {
           code = systematic-word h (message f t d k);
           pattern =
               rw (← (eqb→eq (patternAt (lengthOf f) (x .0)) (sum w (wordOf (generatorOf f) d)) (x .2)))
               (row-pattern (lengthOf f) rule (a .code .least) (x .0) (x .1));
         } in
-        settles-yes (ruleChecks (lengthOf f) (generatorOf f) rule ++ last) tt
-        (passed-on (ruleChecks (lengthOf f) (generatorOf f) rule) last (of-allowed a) (ltb→lt w (2 ^ lengthOf f) l, ((wordOf (generatorOf f) d, m), tt)))
-        (record { code = wordOf (generatorOf f) d; mends = m; message = systematic-first h; differ = e })
+        done-decodes (code-found a (ltb→lt w (2 ^ lengthOf f) l) m e) First refl (systematic-first h)
 
     -- no pattern of the row leaves what w leaves
     refused : T (each (patternCount (lengthOf f) rule)
         (λ i. not (eqb (divide (patternAt (lengthOf f) i) (generatorOf f) .remainder) (divide w (generatorOf f) .remainder))))
         → Decodes First (lengthOf f) (generatorOf f) rule w 8 0 0
     refused s =
-        let last = wordCheck (lengthOf f) w ∷ readableCheck (lengthOf f) (generatorOf f) rule w ∷ [] in
-        settles-no (ruleChecks (lengthOf f) (generatorOf f) rule ++ last) tt (λ e. omega (arith, e))
-        (verdict-on (ruleChecks (lengthOf f) (generatorOf f) rule) last 8 (of-allowed a)
-        (inr (ltb→lt w (2 ^ lengthOf f) l, inl ((λ r. unread (r .0) (r .1)), refl)))) (refl, refl)
+        refused-decodes (none-found a (ltb→lt w (2 ^ lengthOf f) l) (divide-remainder w (pos f t)) unread) First (λ e. omega (arith, e))
       where
-        unread : (c : ℕ) → Mends (Pattern (lengthOf f) rule) (lengthOf f) (generatorOf f) w c → ⊥
-        unread c m =
-            let p = pattern-row (lengthOf f) rule (a .code .least) (m .pattern) in
-            let same = remainder-unique {s′ = divide w (generatorOf f) .remainder} (divide-remainder (patternAt (lengthOf f) (p .0)) (pos f t)) (rw (p .2) (mends-remainder m (divide-remainder w (pos f t)))) in
+        unread : (e : ℕ) → Pattern (lengthOf f) rule e → Remainder e (generatorOf f) (divide w (generatorOf f) .remainder) → ⊥
+        unread e q v =
+            let p = pattern-row (lengthOf f) rule (a .code .least) q in
+            let same = remainder-unique {s′ = divide w (generatorOf f) .remainder} (divide-remainder (patternAt (lengthOf f) (p .0)) (pos f t)) (rw (p .2) v) in
             T-not (eqb (divide (patternAt (lengthOf f) (p .0)) (generatorOf f) .remainder) (divide w (generatorOf f) .remainder))
             (each-at (patternCount (lengthOf f) rule)
             (λ i. not (eqb (divide (patternAt (lengthOf f) i) (generatorOf f) .remainder) (divide w (generatorOf f) .remainder))) s (p .0) (p .1))

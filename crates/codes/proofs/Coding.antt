@@ -10,10 +10,10 @@ use lib.ListN.{length, take}
 use lib.Seq.{length-take-le}
 use lib.Arith.{digits-lt}
 use lib.Pow.{pow-add, high, shr-lt}
-use Rattle.poly.specs.Poly.{sum, times, Divides}
+use Rattle.poly.specs.Poly.{sum, times, Divided, Divides}
 use Rattle.poly.specs.Cells.{Cells, poly}
 use Rattle.poly.proofs.Cells.{cells-take, poly-take}
-use Rattle.poly.proofs.Sum.{sum-self, sum-shifted}
+use Rattle.poly.proofs.Sum.{sum-self, sum-zero, sum-shifted}
 use Rattle.poly.proofs.Degree.{degree-unique, times-lt}
 use Rattle.poly.proofs.Division.{lower-lt, remainder-unique}
 use Rattle.poly.proofs.Multiples.{divides-systematic, divides-unique, times-cancel, factor-lt}
@@ -23,7 +23,7 @@ use Rattle.codes.specs.Coding.{Systematic, Product, First, Decoded}
 use Rattle.codes.specs.Calls.{MessageFits, Written}
 use Rattle.codes.proofs.Patterns.{Laws, mends-unique}
 use Rattle.codes.proofs.Rules.{rule-laws}
-use Rattle.codes.proofs.Checking.{Allowed}
+use Rattle.codes.proofs.Checking.{Allowed, left-nothing}
 
 -- ---- systematic words
 
@@ -77,6 +77,10 @@ pub first-determines : {n g c c′ d : ℕ} → CodeWord n g c → CodeWord n g 
 first-determines {n} {g} {c} {c′} p q a b =
     let same : c / 2 ^ b .r ≡ c′ / 2 ^ b .r = ap (λ (r : ℕ). c / 2 ^ r) (degree-unique (b .degree) (a .degree)) ∙ sym (a .cells) ∙ b .cells in
     divides-unique c c′ (b .degree) (p .divides) (q .divides) same
+
+-- the quotient of a multiple of g is its message by the product rule
+pub quotient-product : {g c q s : ℕ} → 0 < g → Divided c g q s → Divides g c → Product g q c
+quotient-product {g} {q = q} h v d = v .whole ∙ ap (sum (times q g)) (left-nothing v h d) ∙ sum-zero (times q g)
 
 -- the first k cells of a word are its message, as a row of cells too
 pub first-message : {n g : ℕ} (c : List ℕ) (k : ℕ) → length c ≡ n → Cells c → MessageLength n g k → First g (poly (take k c)) (poly c)

@@ -5,5 +5,6 @@ pub mod Row
 pub mod Checking
 pub mod Calls
 pub mod Coding
+pub mod Finding
 pub mod Settled
 pub mod Cutting

@@ -1,4 +1,3 @@
 pub mod Fitting
 pub mod Searching
-pub mod Answering
 pub mod Settled

@@ -8,8 +8,9 @@ ghost use Rattle.codes.specs.Mending.{Pattern};
 ghost use Rattle.codes.specs.Coding.{Systematic, Product, First};
 ghost use Rattle.codes.specs.Calls.{messageCheck, Encodes, Leaves, Decodes};
 ghost use Rattle.codes.specs.Row.{Given};
+ghost use Rattle.codes.specs.Finding.{FindsCode};
 ghost use Rattle.codes.proofs.Checking.{Code};
-ghost use Rattle.numbers.specs.Finding.{FirstShift, Finds, FindsCode};
+ghost use Rattle.numbers.specs.Finding.{FirstShift, Finds};
 
 #[repr(C)]
 pub struct Value {

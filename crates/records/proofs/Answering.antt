@@ -2,7 +2,7 @@
 -- Assumes nothing.
 use mathlib.Core.Path.{_≡_, refl, ap, _∙_}
 use mathlib.Core.Bool.{Bool, true, false, cond}
-use mathlib.Core.List.{List, [], _∷_, _++_}
+use mathlib.Core.List.{List}
 use mathlib.Core.Logic.{inl, inr}
 use Prim.Native.Nat.{ℕ, _+_, _-_, _*_, _/_, _^_, _≤_, _<_}
 use native.Mathlib.Nat.{mul-le-mul, zero-div, div-eq-of-lt, lt-of-lt-of-le}
@@ -12,28 +12,28 @@ use lib.Count.{ones}
 use lib.Dec.{eqb}
 use lib.ListN.{getD}
 use lib.Pow.{pow-mono, shl-lt}
-use Rattle.poly.specs.Poly.{sum, times, Degree, Remainder, Divides}
-use Rattle.poly.proofs.Sum.{sum-zero, sum-back}
+use Rattle.poly.specs.Poly.{sum, times, Degree, Remainder}
 use Rattle.poly.proofs.Degree.{degree-unique, high-zero}
 use Rattle.poly.proofs.Division.{lower-zero, divided-lower, quotient-unique}
 use Rattle.verdict.specs.Verdict.{Verdict, Tells}
-use Rattle.verdict.proofs.Verdict.{settles-yes, settles-no, verdict-on, tells-yes, tells-no}
+use Rattle.verdict.proofs.Verdict.{verdict-on, tells-yes, tells-no}
 use Rattle.codes.specs.Code.{codeChecks}
-use Rattle.codes.specs.Mending.{Pattern, Carries, Mends, carryChecks, ruleChecks}
-use Rattle.codes.specs.Coding.{Systematic, Product}
-use Rattle.codes.specs.Calls.{MessageFits, wordCheck, readableCheck}
+use Rattle.codes.specs.Mending.{Pattern, Carries, carryChecks}
+use Rattle.codes.specs.Coding.{Systematic, Product, First}
+use Rattle.codes.specs.Calls.{MessageFits}
 use Rattle.codes.specs.Row.{patternAt, patternCount}
-use Rattle.codes.proofs.Checking.{Code, of-code, left-nothing, generator-pos}
-use Rattle.codes.proofs.Calls.{encodes-done, leaves-done, readable-passed}
-use Rattle.codes.proofs.Patterns.{mends-remainder, pattern-mends}
-use Rattle.codes.proofs.Rules.{rule-laws}
+use Rattle.codes.specs.Finding.{FindsCode}
+use Rattle.codes.proofs.Checking.{Code, Allowed, of-code, generator-pos}
+use Rattle.codes.proofs.Calls.{encodes-done, leaves-done}
+use Rattle.codes.proofs.Coding.{quotient-product}
+use Rattle.codes.proofs.Finding.{code-refused, pattern-found, none-found, found-divides, found-decodes}
 use Rattle.families.specs.Families.{generators, pairs}
 use Rattle.families.proofs.Families.{family-shown, family-code, family-long}
 use Rattle.tables.specs.Tables.{Packed, Place, Places, Family, highest}
 use Rattle.tables.proofs.Entering.{remainder-small}
 use Rattle.tables.proofs.Reading.{highest-carried, rule-carried, place-found, place-missing}
 use Rattle.records.specs.Records.{Job, E, P, S, D, Q, RuleFits, WordFits, Calls}
-use Rattle.records.specs.Steps.{Answered, Mending}
+use Rattle.records.specs.Steps.{Answered}
 
 -- number 9 where rule or word does not fit, and what the call gives where they do
 pub nine : (job : Job) {n g rule w : ℕ} → (RuleFits job rule → WordFits job n g w → ⊥) → Answered job n g rule w 9 0 0
@@ -96,67 +96,33 @@ module _ {n g r : ℕ} (c : Code n g) (h : Degree g r) where
   -- ---- decoders: the message of the mended word
 
   -- its first k cells
-  pub answers-first : (rule w : ℕ) {number count code : ℕ} → w < 2 ^ n → number < 10 → count < 10 → Mending n g rule w number count code
+  pub answers-first : (rule w : ℕ) {number count code : ℕ} → w < 2 ^ n → number < 10 → count < 10 → FindsCode n g rule w number code count
       → Answered D n g rule w number count (code / 2 ^ r)
-  answers-first rule w {code = code} z l m s =
+  answers-first rule w z l m s =
       called D tt z l m
-      (record {
-        ordered = s .ordered;
-        verdict = s .verdict;
-        done = λ e. record { code = code; mends = s .done e .0; message = record { r = r; degree = h; cells = refl }; differ = s .done e .1 };
-        refused = λ b. (ap (λ (x : ℕ). x / 2 ^ r) (s .refused b .0) ∙ zero-div (2 ^ r), s .refused b .1);
-      })
+      (found-decodes s First (λ e. record { r = r; degree = h; cells = refl }) (λ f. ap (λ (x : ℕ). x / 2 ^ r) (s .refused f .0) ∙ zero-div (2 ^ r)))
 
-  -- its quotient: a code word leaves nothing, and 0 has none
-  quotient-word : {v e : ℕ} → Packed g r v e → Divides g v → v ≡ times (e / 2 ^ r) g
-  quotient-word {v} {e} a d = a .divided .whole ∙ ap (sum (times (e / 2 ^ r) g)) (left-nothing (a .divided) pos d) ∙ sum-zero (times (e / 2 ^ r) g)
-
+  -- its quotient, which 0 has none of
   quotient-none : {v e : ℕ} → Packed g r v e → v ≡ 0 → e / 2 ^ r ≡ 0
   quotient-none a z = quotient-unique (rw z at (a .divided)) (divided-lower (lower-zero pos))
 
-  pub answers-quotient : (rule w e : ℕ) {number count code : ℕ} → w < 2 ^ n → number < 10 → count < 10 → Mending n g rule w number count code
+  pub answers-quotient : (rule w e : ℕ) {number count code : ℕ} → w < 2 ^ n → number < 10 → count < 10 → FindsCode n g rule w number code count
       → Packed g r code e → Answered Q n g rule w number count (e / 2 ^ r)
-  answers-quotient rule w e {code = code} z l m s a =
+  answers-quotient rule w e z l m s a =
       called Q tt z l m
-      (record {
-        ordered = s .ordered;
-        verdict = s .verdict;
-        done = λ o. record { code = code; mends = s .done o .0; message = quotient-word a (s .done o .0 .code .divides); differ = s .done o .1 };
-        refused = λ b. (quotient-none a (s .refused b .0), s .refused b .1);
-      })
+      (found-decodes s Product (λ o. quotient-product pos (a .divided) (found-divides s o)) (λ f. quotient-none a (s .refused f .0)))
 
 -- ---- mending
 
--- a number that is refused settles count and word
-refusal : (n g rule w number : ℕ) → Verdict (ruleChecks n g rule ++ (wordCheck n w ∷ readableCheck n g rule w ∷ [])) number → (number ≡ 0 → ⊥)
-    → Mending n g rule w number 0 0
-refusal n g rule w number v b = settles-no (ruleChecks n g rule ++ (wordCheck n w ∷ readableCheck n g rule w ∷ [])) tt b v (refl, refl)
-
 module _ {n g : ℕ} (c : Code n g) (rule w : ℕ) where
-  after : (number : ℕ) → Verdict (carryChecks n g rule ++ (wordCheck n w ∷ readableCheck n g rule w ∷ [])) number
-      → Verdict (ruleChecks n g rule ++ (wordCheck n w ∷ readableCheck n g rule w ∷ [])) number
-  after number = verdict-on (codeChecks n g) (carryChecks n g rule ++ (wordCheck n w ∷ readableCheck n g rule w ∷ [])) number (of-code c)
+  refused : {m : ℕ} → (m ≡ 0 → ⊥) → Verdict (carryChecks n g rule) m → FindsCode n g rule w m 0 0
+  refused {m} f v = code-refused f (verdict-on (codeChecks n g) (carryChecks n g rule) m (of-code c) v)
 
-  pub mending-unknown : 2 < rule → Mending n g rule w 4 0 0
-  mending-unknown l = refusal n g rule w 4 (after 4 (inl ((λ m. omega arith), refl))) (λ e. omega arith)
+  pub mending-unknown : 2 < rule → FindsCode n g rule w 4 0 0
+  mending-unknown l = refused (λ e. omega arith) (inl ((λ m. omega arith), refl))
 
-  pub mending-uncarried : rule ≤ 2 → (Carries (Pattern n rule) g → ⊥) → Mending n g rule w 5 0 0
-  mending-uncarried l f = refusal n g rule w 5 (after 5 (inr (l, inl (f, refl)))) (λ e. omega arith)
-
-  module _ (l : rule ≤ 2) (carried : Carries (Pattern n rule) g) (below : w < 2 ^ n) where
-    -- no pattern has the word's remainder
-    pub mending-none : {s : ℕ} → Remainder w g s → ((p : ℕ) → Pattern n rule p → Remainder p g s → ⊥) → Mending n g rule w 8 0 0
-    mending-none v none =
-        refusal n g rule w 8
-        (after 8 (inr (l, inr (carried, inr (below, inl ((λ m. none (sum w (m .0)) (m .1 .pattern) (mends-remainder (m .1) v)), refl))))))
-        (λ e. omega arith)
-
-    -- one has
-    pub mending-found : {p s count : ℕ} → Remainder w g s → Pattern n rule p → Remainder p g s → count ≡ ones p → Mending n g rule w 0 count (sum w p)
-    mending-found {p} v q u e =
-        let m : Mends (Pattern n rule) n g w (sum w p) = pattern-mends (rule-laws rule (c .least) carried) (c .generator .odd) below q v u in
-        settles-yes (ruleChecks n g rule ++ (wordCheck n w ∷ readableCheck n g rule w ∷ [])) tt
-        (readable-passed (record { code = c; known = l; carried = carried }) below (sum w p, m)) (m, rw sum-back e)
+  pub mending-uncarried : rule ≤ 2 → (Carries (Pattern n rule) g → ⊥) → FindsCode n g rule w 5 0 0
+  mending-uncarried l f = refused (λ e. omega arith) (inr (l, inl (f, refl)))
 
 -- ---- the families
 
@@ -178,8 +144,8 @@ module _ {f n r : ℕ} (h : Family f n r) where
     known : rule ≤ 2
     known = omega (arith, highest-carried f (h .row) .1)
 
-    carried : Carries (Pattern n rule) (getD generators f 0)
-    carried = rw (h .length) (rule-carried f rule (h .row) l)
+    allowed : Allowed n (getD generators f 0) rule
+    allowed = record { code = checked; known = known; carried = rw (h .length) (rule-carried f rule (h .row) l) }
 
     -- the entry of the word's remainder
     module _ {t : List ℕ} (p : Places t) {s : ℕ} (v : Remainder w (getD generators f 0) s) where
@@ -192,14 +158,14 @@ module _ {f n r : ℕ} (h : Family f n r) where
       top : (highest f ≤ 2) × Carries (Pattern n (highest f)) (getD generators f 0)
       top = let k = highest-carried f (h .row) in (k .1, rw (h .length) (k .2))
 
-      pub entry-none : n * rule < getD t (f * 2048 + s) 0 → Mending n (getD generators f 0) rule w 8 0 0
-      entry-none b = mending-none checked rule w known carried below v (place-missing long (checked .most) (top .0) (top .1) rule l here b)
+      pub entry-none : n * rule < getD t (f * 2048 + s) 0 → FindsCode n (getD generators f 0) rule w 8 0 0
+      entry-none b = none-found allowed below v (place-missing long (checked .most) (top .0) (top .1) rule l here b)
 
       pub entry-found : {count : ℕ} → getD t (f * 2048 + s) 0 ≤ n * rule → count ≡ ones (patternAt n (getD t (f * 2048 + s) 0))
-          → Mending n (getD generators f 0) rule w 0 count (sum w (patternAt n (getD t (f * 2048 + s) 0)))
+          → FindsCode n (getD generators f 0) rule w 0 (sum w (patternAt n (getD t (f * 2048 + s) 0))) count
       entry-found b e =
           let k = place-found long (checked .most) (top .0) (top .1) rule l here b in
-          mending-found checked rule w known carried below v (k .0) (k .1) e
+          pattern-found allowed below v (k .0) (k .1) e
 
       -- it is a place of the row
       pub entry-within : getD t (f * 2048 + s) 0 ≤ n * rule → getD t (f * 2048 + s) 0 ≤ 2 * n

@@ -1,13 +1,8 @@
 -- What the functions on the way from a record to its line promise each other. Assumes nothing.
 use mathlib.Core.Path.{_≡_}
-use mathlib.Core.List.{List, [], _∷_, _++_}
+use mathlib.Core.List.{List}
 use Prim.Native.Nat.{ℕ, _≤_, _<_}
-use lib.Count.{ones}
 use lib.ListN.{length}
-use Rattle.poly.specs.Poly.{sum}
-use Rattle.verdict.specs.Verdict.{Settles}
-use Rattle.codes.specs.Mending.{Pattern, Mends, ruleChecks}
-use Rattle.codes.specs.Calls.{wordCheck, readableCheck}
 use Rattle.text.specs.Text.{Puts}
 use Rattle.records.specs.Records.{Record, Job, RuleFits, WordFits, Calls, Gives, recordOf, lineOf}
 
@@ -16,12 +11,6 @@ pub record Answered (job : Job) (n g rule w number count value : ℕ) : Type 0 w
   pub digits : (number < 10) × (count < 10)
   pub refused : (RuleFits job rule → WordFits job n g w → ⊥) → (number ≡ 9) × (count ≡ 0) × (value ≡ 0)
   pub done : RuleFits job rule → WordFits job n g w → Calls job n g rule w number count value
-
--- What both decoders begin with: the code word that differs from w in a pattern, and the number of cells in it.
-abbrev pub Mending : ℕ → ℕ → ℕ → ℕ → ℕ → ℕ → ℕ → Type 0
-Mending n g rule w number count code =
-    Settles (ruleChecks n g rule ++ (wordCheck n w ∷ readableCheck n g rule w ∷ [])) number
-    (Mends (Pattern n rule) n g w code × (count ≡ ones (sum w code))) ((code ≡ 0) × (count ≡ 0))
 
 -- A record by its fields.
 abbrev pub fields : ℕ → ℕ → ℕ → ℕ → ℕ → ℕ → Record

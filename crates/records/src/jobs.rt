@@ -6,10 +6,11 @@ ghost use lib.ListN.{getD};
 ghost use Rattle.poly.specs.Poly.{times, Degree, Remainder};
 ghost use Rattle.verdict.specs.Verdict.{Tells};
 ghost use Rattle.codes.specs.Row.{patternAt};
+ghost use Rattle.codes.specs.Finding.{FindsCode};
 ghost use Rattle.families.specs.Families.{lengths, generators};
 ghost use Rattle.tables.specs.Tables.{Packed, Parts, Places, Family, highest as highestOf};
 ghost use Rattle.records.specs.Records.{E, P, S, D, Q, Gives};
-ghost use Rattle.records.specs.Steps.{Answered, Mending, fields};
+ghost use Rattle.records.specs.Steps.{Answered, fields};
 
 pub(crate) struct Outcome {
     pub number: u64,
@@ -181,7 +182,7 @@ fn mend(
     w: u64,
 ) -> Outcome
     requires { ⌜ Parts (now parts) × Places (now places) × Family f n r × (w < 2 ^ n) ⌝ }
-    ensures mends { λ m. ⌜ Mending n (getD generators f 0) rule w (m .number) (m .count) (m .value) ⌝ }
+    ensures mends { λ m. ⌜ FindsCode n (getD generators f 0) rule w (m .number) (m .value) (m .count) ⌝ }
     ensures digits { λ m. ⌜ (m .number < 10) × (m .count < 10) ⌝ }
 {
     if 2 < rule {

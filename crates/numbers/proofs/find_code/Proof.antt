@@ -1,12 +1,15 @@
 -- The pattern with the word's remainder, if there is one, makes the word a code word.
+use mathlib.Core.Path.{refl}
 use native.Mathlib.Nat.{div-eq-of-lt}
 use native.Mathlib.Omega.{arith}
 use borrow.Author.Needs.{needs}
 use borrow.Author.Tests.{not-true, not-false}
 use lib.Count.{ones-le}
 use Rattle.poly.proofs.Degree.{high-zero}
+use Rattle.poly.proofs.Division.{remainder-of}
 use Rattle.codes.proofs.Checking.{Allowed, allowed-zero, code-given}
-use Rattle.numbers.proofs.Answering.{code-refused, word-refused, unreadable, readable}
+use Rattle.codes.proofs.Finding.{code-refused, word-refused, pattern-found, none-found}
+use Rattle.numbers.proofs.Fitting.{code-divided}
 use Rattle.numbers.proofs.find_code.Statement.{statement}
 use Rattle.numbers.proofs.find_code.Tie as tie
 
@@ -38,7 +41,9 @@ find-requires c κs = let k = allowed (c .before .before .before) .code in (k, c
 returns-3 : tie.Need-returns-3
 returns-3 c =
     let d = c .before .before .before .before in
-    unreadable (allowed (d .before .before)) (high-zero _ _ (d .before .if2 .left)) (d .divide-number .ensures) (c .before .before .find .ensures) (not-true _ (c .if3 .taken))
+    let a = allowed (d .before .before) in
+    none-found a (high-zero _ _ (d .before .if2 .left)) (remainder-of (code-divided (a .code) (d .divide-number .ensures)))
+    (c .before .before .find .ensures .no (not-true _ (c .if3 .taken)))
 
 cast-t11 : tie.Need-cast-t11
 cast-t11 c = omega (arith, ones-le 64 (c .before .before .find .result .places) (search needs))
@@ -46,7 +51,9 @@ cast-t11 c = omega (arith, ones-le 64 (c .before .before .find .result .places) 
 returns-4 : tie.Need-returns-4
 returns-4 c =
     let d = c .before .before .before .before in
-    readable (allowed (d .before .before)) (high-zero _ _ (d .before .if2 .left)) (d .divide-number .ensures) (c .before .before .find .ensures) (not-false _ (c .if3 .left))
+    let a = allowed (d .before .before) in
+    let p = c .before .before .find .ensures .yes (not-false _ (c .if3 .left)) in
+    pattern-found a (high-zero _ _ (d .before .if2 .left)) (remainder-of (code-divided (a .code) (d .divide-number .ensures))) (p .0) (p .1) refl
 
 pub find-code-spec : {M : Type 1} → statement M
 find-code-spec =
