@@ -3,9 +3,8 @@
 use mathlib.Core.Path.{_≡_, refl, sym, _∙_}
 use mathlib.Core.Bool.{Bool, true, false, not, _&&_, _||_}
 use mathlib.Core.List.{List, [], _∷_}
-use mathlib.Core.Logic.{_⊎_, inl, inr}
 use Prim.Native.Nat.{ℕ, zero, suc, _-_, _*_, _^_, _<_}
-use native.Mathlib.Nat.{mod-eq-of-lt, le-refl, le-step, eq-or-lt-of-le, le-of-suc-le-suc, not-suc-le-zero}
+use native.Mathlib.Nat.{mod-eq-of-lt, le-refl, le-step}
 use native.Mathlib.Omega.{arith}
 use lib.Count.{ones}
 use lib.Dec.{T, T-not, eqb, ltb, eqb→eq, ltb→lt, eqb-refl}
@@ -17,6 +16,7 @@ use Rattle.poly.proofs.Degree.{degree-of, degree-unique}
 use Rattle.poly.proofs.Division.{divide-divided, divide-remainder, remainder-unique}
 use Rattle.poly.proofs.Cells.{length-cells, cells-cells, poly-cells}
 use Rattle.verdict.proofs.Verdict.{settles-yes}
+use Rattle.verdict.proofs.Bool.{is-true, and-left, and-right, eachBelow, each-at}
 use Rattle.cells.specs.Lent.{cellsCheck}
 use Rattle.division.specs.Division.{dividendCheck, divisorCheck, quotientCheck}
 use Rattle.codes.specs.Mending.{Pattern, Mends}
@@ -34,22 +34,10 @@ use Rattle.cases.specs.Cases.{Case, divides, systematic, product, remain
 
 -- ---- tests
 
-and-left : (a b : Bool) → T (a && b) → T a
-and-left true b t = tt
-and-left false b t = t
-
-and-right : (a b : Bool) → T (a && b) → T b
-and-right true b t = t
-and-right false b t = absurd t
-
--- at some place, and at each place below m
+-- at some place below m
 abbrev some : ℕ → (ℕ → Bool) → Bool
 some zero t = false
 some (suc m) t = t m || some m t
-
-abbrev each : ℕ → (ℕ → Bool) → Bool
-each zero t = true
-each (suc m) t = t m && each m t
 
 -- x^r times a message, and the word that goes with it
 abbrev shifted : ℕ → ℕ → ℕ
@@ -85,7 +73,7 @@ right (mends f rule w d count) =
     && eqb count (ones (sum w (wordOf (generatorOf f) d)))))))
 right (refuses f rule w) =
     family f && (carried f rule && (ltb w (2 ^ lengthOf f)
-    && each (patternCount (lengthOf f) rule) (λ i. not (eqb (divide (patternAt (lengthOf f) i) (generatorOf f) .remainder) (divide w (generatorOf f) .remainder)))))
+    && eachBelow (patternCount (lengthOf f) rule) (λ i. not (eqb (divide (patternAt (lengthOf f) i) (generatorOf f) .remainder) (divide w (generatorOf f) .remainder)))))
 
 abbrev every : List Case → Bool
 every [] = true
@@ -97,7 +85,7 @@ all-right = tt
 
 -- ---- what they say
 
--- a test at some place, and at each
+-- a test at some place
 some-at : (m : ℕ) (t : ℕ → Bool) → T (some m t) → (i : ℕ) × (i < m) × T (t i)
 some-at zero t s = absurd s
 some-at (suc m) t s = go (some-at m t) (t m) refl s
@@ -105,14 +93,6 @@ some-at (suc m) t s = go (some-at m t) (t m) refl s
     go : (T (some m t) → (i : ℕ) × (i < m) × T (t i)) → (b : Bool) → t m ≡ b → T (b || some m t) → (i : ℕ) × (i < suc m) × T (t i)
     go less true e u = (m, le-refl (suc m), rw e tt)
     go less false e u = let r = less u in (r .0, le-step (r .1), r .2)
-
-each-at : (m : ℕ) (t : ℕ → Bool) → T (each m t) → (i : ℕ) → i < m → T (t i)
-each-at zero t s i l = absurd (not-suc-le-zero l)
-each-at (suc m) t s i l = go (each-at m t (and-right (t m) (each m t) s) i) (eq-or-lt-of-le (le-of-suc-le-suc l))
-  where
-    go : (i < m → T (t i)) → (i ≡ m) ⊎ (i < m) → T (t i)
-    go less (inl e) = rw e (and-left (t m) (each m t) s)
-    go less (inr b) = less b
 
 module _ (f : ℕ) (t : T (family f)) where
   shown : Shown (f - 1)
@@ -127,11 +107,7 @@ module _ (f : ℕ) (t : T (family f)) where
   allowed (suc zero) c = rw here (allowed-of (shown .singles))
   allowed (suc (suc zero)) c =
       rw here
-      (record { code = allowed-of (shown .none) .code; known = le-refl 2; carried = shown .pairs .yes (go (getD pairs (f - 1) false) (rw here at c)) })
-    where
-      go : (b : Bool) → T b → b ≡ true
-      go true u = refl
-      go false u = absurd u
+      (record { code = allowed-of (shown .none) .code; known = le-refl 2; carried = shown .pairs .yes (is-true (getD pairs (f - 1) false) (rw here at c)) })
   allowed (suc (suc (suc rule))) c = absurd c
 
   code : Code (lengthOf f) (generatorOf f)
@@ -215,7 +191,7 @@ module _ (f : ℕ) (t : T (family f)) where
         done-decodes (code-found a (ltb→lt w (2 ^ lengthOf f) l) m e) First refl (systematic-first h)
 
     -- no pattern of the row leaves what w leaves
-    refused : T (each (patternCount (lengthOf f) rule)
+    refused : T (eachBelow (patternCount (lengthOf f) rule)
         (λ i. not (eqb (divide (patternAt (lengthOf f) i) (generatorOf f) .remainder) (divide w (generatorOf f) .remainder))))
         → Decodes First (lengthOf f) (generatorOf f) rule w 8 0 0
     refused s =
@@ -226,8 +202,8 @@ module _ (f : ℕ) (t : T (family f)) where
             let p = pattern-row (lengthOf f) rule (a .code .least) q in
             let same = remainder-unique {s′ = divide w (generatorOf f) .remainder} (divide-remainder (patternAt (lengthOf f) (p .0)) (pos f t)) (rw (p .2) v) in
             T-not (eqb (divide (patternAt (lengthOf f) (p .0)) (generatorOf f) .remainder) (divide w (generatorOf f) .remainder))
-            (each-at (patternCount (lengthOf f) rule)
-            (λ i. not (eqb (divide (patternAt (lengthOf f) i) (generatorOf f) .remainder) (divide w (generatorOf f) .remainder))) s (p .0) (p .1))
+            (each-at (λ i. not (eqb (divide (patternAt (lengthOf f) i) (generatorOf f) .remainder) (divide w (generatorOf f) .remainder)))
+            (patternCount (lengthOf f) rule) s (p .0) (p .1))
             (rw same (eqb-refl (divide w (generatorOf f) .remainder)))
 
 -- ---- the table

@@ -13,10 +13,10 @@ use Rattle.poly.specs.Shifts.{divide}
 use Rattle.poly.proofs.Division.{divide-remainder}
 use Rattle.verdict.specs.Verdict.{Tells}
 use Rattle.verdict.proofs.Verdict.{tells-yes, tells-no}
+use Rattle.verdict.proofs.Bool.{and-left, and-right, not-and}
 use Rattle.codes.specs.Mending.{Pattern, Carries}
 use Rattle.codes.specs.Row.{patternAt, patternCount}
 use Rattle.codes.proofs.Row.{row-carries, row-collides}
-use Rattle.families.proofs.Below.{and-left, and-right, not-and}
 
 -- ---- a list in which no two places hold the same
 

@@ -14,10 +14,10 @@ use Rattle.poly.specs.Shifts.{degree, divide}
 use Rattle.poly.proofs.Degree.{degree-of, degree-unique, power-lt}
 use Rattle.poly.proofs.Division.{divide-multiple}
 use Rattle.verdict.specs.Verdict.{Passed, Tells}
+use Rattle.verdict.proofs.Bool.{is-true, and-left, and-right, eachBelow, each-at}
 use Rattle.codes.specs.Mending.{Pattern, Carries, ruleChecks}
 use Rattle.codes.proofs.Checking.{Code, allowed-of, of-allowed, generator-pos}
 use Rattle.families.specs.Families.{lengths, generators, pairs, numbered, lengthOf, generatorOf, pairsOf, Shown}
-use Rattle.families.proofs.Below.{and-left, and-right, eachBelow, each-at}
 use Rattle.families.proofs.Carrying.{carries, carries-tells}
 
 -- ---- the tests of one family
@@ -77,11 +77,7 @@ module _ (n g : ℕ) (b : Bool) (t : T (every (tests n g b))) where
   tells rule = carries-tells rule least pos
 
   carried : (rule : ℕ) → T (carries n g rule) → Carries (Pattern n rule) g
-  carried rule s = tells rule .yes (go (carries n g rule) s)
-    where
-      go : (a : Bool) → T a → a ≡ true
-      go true u = refl
-      go false u = absurd u
+  carried rule s = tells rule .yes (is-true (carries n g rule) s)
 
   pairs-told : Tells (Carries (Pattern n 2) g) b
   unfolding tests

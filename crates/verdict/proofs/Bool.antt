@@ -1,11 +1,16 @@
--- A test that antt computes for every number below a bound, and what it says of each.
+-- Tests that antt computes, and what they say where they pass: two tests, and a test at every number below a bound.
 -- Assumes nothing.
-use mathlib.Core.Path.{_≡_}
+use mathlib.Core.Path.{_≡_, refl}
 use mathlib.Core.Bool.{Bool, true, false, not, _&&_}
 use mathlib.Core.Logic.{_⊎_, inl, inr}
 use Prim.Native.Nat.{ℕ, zero, suc, _<_}
 use native.Mathlib.Nat.{eq-or-lt-of-le, le-of-suc-le-suc, not-suc-le-zero}
 use lib.Dec.{T}
+
+-- a test that passes answers true
+pub is-true : (b : Bool) → T b → b ≡ true
+is-true true t = refl
+is-true false t = absurd t
 
 -- two tests, one after the other
 pub and-left : (a b : Bool) → T (a && b) → T a
