@@ -1,4 +1,4 @@
--- Words through the register, cell by cell, and words turned round.
+-- Words through the register, cell by cell; and what the high side gives of a word, the low side gives of the word and r zeros.
 -- Assumes nothing.
 use mathlib.Core.Path.{_≡_}
 use mathlib.Core.List.{List, [], _∷_, _++_}
