@@ -17,10 +17,9 @@ use Rattle.verdict.proofs.Verdict.{verdict-settled, passed-verdict, settles-don
 use Rattle.codes.specs.Mending.{Pattern, Mends, Readable, ruleChecks}
 use Rattle.codes.specs.Coding.{First, Decoded}
 use Rattle.codes.specs.Calls.{wordCheck, readableCheck, Decodes}
-use Rattle.codes.proofs.Patterns.{mends-unique}
 use Rattle.codes.proofs.Checking.{Allowed, allowed-of, of-allowed}
 use Rattle.codes.proofs.Calls.{readable-passed}
-use Rattle.codes.proofs.Coding.{allowed-laws, first-unique}
+use Rattle.codes.proofs.Coding.{allowed-unique, first-unique}
 use Rattle.codes.proofs.Cutting.{first-number, first-passed}
 use Rattle.numbers.specs.declared.Decoding.{Decoding}
 use Rattle.readings.specs.Readings.{Agree, SecondWord, alone, fewer, FirstWord, only, enough, bothCheck, cellsCheck, wordsChecks, messageChecks, readingChecks, TakesFirst, TakesSecond, Numbered, Picks}
@@ -30,9 +29,6 @@ use Rattle.readings.specs.Within.{fewer as weighs-fewer, enough as weigh
 -- ---- one word: what its decoding says
 
 module _ {n g rule : ℕ} (a : Allowed n g rule) where
-  same-code : (w : ℕ) {c d : ℕ} → Mends (Pattern n rule) n g w c → Mends (Pattern n rule) n g w d → c ≡ d
-  same-code = mends-unique (allowed-laws a) (a .code .generator .odd)
-
   module _ {p : ℕ} (w : List ℕ) (x : Decoding) (h : Decodes First n g rule p (x .number) (x .message) (x .mended)) (long : length w ≡ n) (fine : Cells w)
       (v : Where ((length w ≤ 63) × Cells w) (p ≡ poly w) (p ≡ 0)) where
     stands : p ≡ poly w
@@ -57,16 +53,16 @@ module _ {n g rule : ℕ} (a : Allowed n g rule) where
     first-not-second (only r f) (fewer c d h l) = f (d, h .second)
     first-not-second (enough c d h l) (alone f s) = f (c, h .first)
     first-not-second (enough c d h l) (fewer c′ d′ h′ l′) =
-        let e : ones (sum u c) ≡ ones (sum u c′) = ap (λ (x : ℕ). ones (sum u x)) (same-code u (h .first) (h′ .first)) in
-        let s : ones (sum v d) ≡ ones (sum v d′) = ap (λ (x : ℕ). ones (sum v x)) (same-code v (h .second) (h′ .second)) in
+        let e : ones (sum u c) ≡ ones (sum u c′) = ap (λ (x : ℕ). ones (sum u x)) (allowed-unique a u (h .first) (h′ .first)) in
+        let s : ones (sum v d) ≡ ones (sum v d′) = ap (λ (x : ℕ). ones (sum v x)) (allowed-unique a v (h .second) (h′ .second)) in
         omega (arith, e, s)
 
     -- what agrees with two decodings
     module _ {m m′ k k′ : ℕ} (x : Decoded (Pattern n rule) (First g) n g u m k) (y : Decoded (Pattern n rule) (First g) n g v m′ k′) where
       pub agrees : {c d : ℕ} → Agree (Pattern n rule) n g u v c d → m ≡ m′
       agrees {c} {d} h =
-          let fx : First g m c = rw (same-code u (x .mends) (h .first)) at (x .message) in
-          let fy : First g m′ d = rw (same-code v (y .mends) (h .second)) at (y .message) in
+          let fx : First g m c = rw (allowed-unique a u (x .mends) (h .first)) at (x .message) in
+          let fy : First g m′ d = rw (allowed-unique a v (y .mends) (h .second)) at (y .message) in
           first-unique fx (h .ofFirst) ∙ sym (first-unique fy (h .ofSecond))
 
       pub agree : m ≡ m′ → Agree (Pattern n rule) n g u v (x .code) (y .code)
@@ -74,8 +70,8 @@ module _ {n g rule : ℕ} (a : Allowed n g rule) where
 
       pub messages : (c d i j : ℕ) → Mends (Pattern n rule) n g u c → Mends (Pattern n rule) n g v d → First g i c → First g j d → m ≡ m′ → i ≡ j
       messages c d i j p q s t e =
-          let fx : First g m c = rw (same-code u (x .mends) p) at (x .message) in
-          let fy : First g m′ d = rw (same-code v (y .mends) q) at (y .message) in
+          let fx : First g m c = rw (allowed-unique a u (x .mends) p) at (x .message) in
+          let fy : First g m′ d = rw (allowed-unique a v (y .mends) q) at (y .message) in
           first-unique s fx ∙ e ∙ first-unique fy t
 
 -- ---- the choice
