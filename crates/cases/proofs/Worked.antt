@@ -11,7 +11,7 @@ use lib.Dec.{T, T-not, eqb, ltb, eqb→eq, ltb→lt, eqb-refl}
 use lib.ListN.{getD}
 use Rattle.poly.specs.Poly.{sum, times, Divided, Remainder}
 use Rattle.poly.specs.Cells.{cells}
-use Rattle.poly.specs.Shifts.{degree, divide}
+use Rattle.poly.proofs.Computed.{degree, divide}
 use Rattle.poly.proofs.Degree.{degree-of, degree-unique}
 use Rattle.poly.proofs.Division.{divide-divided, divide-remainder, remainder-unique}
 use Rattle.poly.proofs.Cells.{length-cells, cells-cells, poly-cells}

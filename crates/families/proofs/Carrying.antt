@@ -9,7 +9,7 @@ use native.Mathlib.Nat.{add-zero, zero-add, add-suc, suc-add, le-of-suc-le-suc, 
 use lib.Dec.{T, T-not, eqb, eqb→eq, eqb-refl}
 use lib.ListN.{length, getD}
 use Rattle.poly.specs.Poly.{Remainder}
-use Rattle.poly.specs.Shifts.{divide}
+use Rattle.poly.proofs.Computed.{divide}
 use Rattle.poly.proofs.Division.{divide-remainder}
 use Rattle.verdict.specs.Verdict.{Tells}
 use Rattle.verdict.proofs.Verdict.{tells-yes, tells-no}

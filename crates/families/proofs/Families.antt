@@ -10,7 +10,7 @@ use native.Mathlib.Omega.{arith}
 use lib.Dec.{T, leb, ltb, eqb, leb→le, ltb→lt, eqb→eq}
 use lib.ListN.{length, getD, List·getD-eq-default}
 use Rattle.poly.specs.Poly.{sum, Degree}
-use Rattle.poly.specs.Shifts.{degree, divide}
+use Rattle.poly.proofs.Computed.{degree, divide}
 use Rattle.poly.proofs.Degree.{degree-of, degree-unique, power-lt}
 use Rattle.poly.proofs.Division.{divide-multiple}
 use Rattle.verdict.specs.Verdict.{Passed, Tells}

@@ -12,7 +12,7 @@ use lib.Bits.{shifted-even}
 use lib.Dec.{lit<}
 use lib.Pow.{pow-add, pow-lt, pow-mono, shr-shr, shl-shr}
 use Rattle.poly.specs.Poly.{sum, coefficient}
-use Rattle.poly.specs.Shifts.{degree}
+use Rattle.poly.proofs.Computed.{degree}
 use Rattle.poly.proofs.Sum.{sum-div, sum-mod, sum-self, sum-zero-eq, on-digit}
 use Rattle.poly.proofs.Degree.{degree-top, degree-of}
 

@@ -10,7 +10,7 @@ use lib.Count.{leadingZeros, leading-top}
 use lib.Dec.{lit<}
 use lib.Pow.{pow-pos, pow-mono, split, shr-shr, shl-shr}
 use Rattle.poly.specs.Poly.{sum, times, horner, Degree}
-use Rattle.poly.specs.Shifts.{degree}
+use Rattle.poly.proofs.Computed.{degree}
 use Rattle.poly.proofs.Sum.{sum-lt, sum-div, sum-split, on-digit}
 use Rattle.poly.proofs.Horner.{horner-suc}
 use Rattle.poly.proofs.Times.{times-step, times-zero-left, times-sum-left, times-power-left}

@@ -9,7 +9,8 @@ use lib.Arith.{bin-ind}
 use lib.Dec.{lit<}
 use lib.Pow.{pow-pos}
 use Rattle.poly.specs.Poly.{sum, times, Degree, Lower, Divided, Remainder, Divides}
-use Rattle.poly.specs.Shifts.{degree, reduce, low, high, bringDown, divide}
+use Rattle.poly.specs.Shifts.{reduce, low, high}
+use Rattle.poly.proofs.Computed.{degree, bringDown, divide}
 use Rattle.poly.proofs.Sum.{sum-zero, sum-self, sum-comm, sum-back, sum-cancel, sum-zero-eq, sum-assoc, sum-double, sum-digit, sum-shift, sum-lt, sum-div, sum-laws, on-digit}
 use Rattle.poly.proofs.Horner.{horner-step}
 use Rattle.poly.proofs.Times.{times-zero-left, times-sum-left, times-double-left, times-by-digit}

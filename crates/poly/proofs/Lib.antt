@@ -2,6 +2,7 @@
 pub mod Sum
 pub mod Horner
 pub mod Times
+pub mod Computed
 pub mod Degree
 pub mod Division
 pub mod Multiples

@@ -8,7 +8,7 @@ use native.Mathlib.Omega.{arith}
 use lib.Dec.{lit<}
 use lib.Pow.{pow-pos, pow-mono}
 use Rattle.poly.specs.Poly.{sum, times, Degree, Remainder, Divides}
-use Rattle.poly.specs.Shifts.{degree}
+use Rattle.poly.proofs.Computed.{degree}
 use Rattle.poly.proofs.Sum.{sum-comm, sum-self, sum-zero-eq, sum-shift, sum-shifted, sum-div, sum-mod, on-digit}
 use Rattle.poly.proofs.Times.{times-step, times-sum, times-sum-left, times-double-left, times-power, times-one, times-assoc}
 use Rattle.poly.proofs.Degree.{degree-times, degree-of, power-lt, high-zero}

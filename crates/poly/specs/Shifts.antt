@@ -1,7 +1,6 @@
--- Division as it is computed on numbers: a register of r stages is a number below 2 ^ r, and long division goes by its shifts. The proofs show
--- that these are the shifts of `Register`, and that they give quotient and remainder. Assumes nothing.
-use Prim.Native.Nat.{ℕ, suc, pred, _+_, _*_, _/_, _^_, _≤_, _<_}
-use Rattle.poly.specs.Poly.{sum, horner, Degree}
+-- The shifts of a register on numbers: one of r stages is a number below 2 ^ r. The proofs show that these are the shifts of `Register`. Assumes nothing.
+use Prim.Native.Nat.{ℕ, _+_, _*_, _/_, _^_, _≤_, _<_}
+use Rattle.poly.specs.Poly.{sum, Degree}
 
 -- t less g, where t has reached g's degree r. What stands at digit r of t, 0 or 1, is the feedback, and the next digit of the quotient.
 unfoldable pub reduce : ℕ → ℕ → ℕ → ℕ
@@ -20,21 +19,3 @@ pub record Ready (r g s c : ℕ) : Type 0 where
   pub most : r ≤ 32
   pub register : s < 2 ^ r
   pub input : c < 2
-
--- The degree: one less than the count of digits, and 0 for p = 0.
-unfoldable pub degree : ℕ → ℕ
-degree p = pred (horner (λ (n c : ℕ). suc n) 0 p)
-
--- Long division: what there is so far, the next digit c of the dividend brought down, and all the digits of p.
-pub record Division : Type 0 where
-  pub quotient : ℕ
-  pub remainder : ℕ
-
-unfoldable pub bringDown : ℕ → ℕ → Division → ℕ → Division
-unfolding reduce
-bringDown r g v c =
-    record { quotient = v .quotient * 2 + (v .remainder * 2 + c) / 2 ^ r; remainder = low r g (v .remainder) c }
-
-unfoldable pub divide : ℕ → ℕ → Division
-unfolding degree bringDown
-divide p g = horner (bringDown (degree g) g) (record { quotient = 0; remainder = 0 }) p

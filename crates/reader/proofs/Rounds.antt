@@ -9,7 +9,7 @@ use native.Mathlib.Nat.{one-mul, pow-suc, zero-div}
 use native.Mathlib.Omega.{arith}
 use lib.Pow.{pow-add, pow-lt, shl-shr}
 use Rattle.poly.specs.Poly.{sum, coefficient, Degree, Remainder, Divides}
-use Rattle.poly.specs.Shifts.{divide}
+use Rattle.poly.proofs.Computed.{divide}
 use Rattle.poly.proofs.Sum.{sum-comm, sum-assoc, sum-lt, sum-mod, sum-double, sum-shift}
 use Rattle.poly.proofs.Times.{times-one, times-comm}
 use Rattle.poly.proofs.Division.{lower, lower-lt, remainder-lower, remainder-sum, remainder-same, remainder-differ, remainder-unique, divide-remainder}

@@ -12,7 +12,7 @@ use lib.ListN.{getD}
 use lib.Pow.{pow-pos, split, mod-pow-add}
 use lib.Seq.{ext-getD}
 use Rattle.poly.specs.Poly.{sum, Degree, Remainder}
-use Rattle.poly.specs.Shifts.{degree}
+use Rattle.poly.proofs.Computed.{degree}
 use Rattle.poly.proofs.Sum.{sum-comm, sum-shifted}
 use Rattle.poly.proofs.Degree.{degree-of}
 use Rattle.poly.proofs.Coefficient.{lt-or-le}

@@ -4,7 +4,7 @@ use Prim.Native.Nat.{ℕ, _-_, _%_, _^_, _≤_}
 use native.Mathlib.Omega.{arith}
 use borrow.Author.Needs.{needs}
 use Rattle.poly.specs.Poly.{times}
-use Rattle.poly.specs.Shifts.{degree}
+use Rattle.poly.proofs.Computed.{degree}
 use Rattle.poly.proofs.Degree.{degree-of}
 use Rattle.records.proofs.Product.{product-none, product-digit, product-fits, product-more, product-all}
 use Rattle.records.proofs.jobs.product.Statement.{statement}
