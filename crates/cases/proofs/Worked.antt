@@ -12,7 +12,7 @@ use lib.ListN.{getD}
 use Rattle.poly.specs.Poly.{sum, times, Divided, Remainder}
 use Rattle.poly.specs.Cells.{cells}
 use Rattle.poly.proofs.Computed.{degree, divide}
-use Rattle.poly.proofs.Degree.{degree-of, degree-unique}
+use Rattle.poly.proofs.Degree.{degree-of}
 use Rattle.poly.proofs.Division.{divide-divided, divide-remainder, remainder-unique}
 use Rattle.poly.proofs.Cells.{length-cells, cells-cells, poly-cells}
 use Rattle.verdict.proofs.Verdict.{settles-yes}
@@ -25,7 +25,7 @@ use Rattle.codes.specs.Calls.{MessageFits, Encodes, Leaves, Decodes}
 use Rattle.codes.specs.Row.{patternAt, patternCount}
 use Rattle.codes.proofs.Row.{row-pattern, pattern-row}
 use Rattle.codes.proofs.Checking.{Code, Allowed, allowed-of, generator-pos}
-use Rattle.codes.proofs.Calls.{encodes-done, leaves-done}
+use Rattle.codes.proofs.Calls.{message-fits, encodes-done, leaves-done}
 use Rattle.codes.proofs.Coding.{systematic-word, systematic-first}
 use Rattle.codes.proofs.Finding.{code-found, none-found, done-decodes, refused-decodes}
 use Rattle.families.specs.Families.{pairs, lengthOf, generatorOf, pairsOf, Shown}
@@ -118,11 +118,7 @@ module _ (f : ℕ) (t : T (family f)) where
 
   -- a message of k cells, and its word
   message : (d : ℕ) → T (fits f d) → MessageFits (lengthOf f) (generatorOf f) d
-  message d l = record {
-    k = lengthOf f - degree (generatorOf f);
-    long = record { r = degree (generatorOf f); degree = degree-of (generatorOf f) pos; whole = omega (arith, code .generator .room, degree-unique (degree-of (generatorOf f) pos) (code .generator .degree)) };
-    below = ltb→lt d (2 ^ (lengthOf f - degree (generatorOf f))) l;
-  }
+  message d l = message-fits code (degree-of (generatorOf f) pos) (ltb→lt d (2 ^ (lengthOf f - degree (generatorOf f))) l)
 
   word : (d : ℕ) → Systematic (generatorOf f) d (wordOf (generatorOf f) d)
   word d = record {

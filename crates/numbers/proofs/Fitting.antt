@@ -18,7 +18,8 @@ use Rattle.verdict.proofs.Verdict.{passed-first, passed-last}
 use Rattle.codes.specs.Code.{codeChecks}
 use Rattle.codes.specs.Coding.{Systematic, Product}
 use Rattle.codes.specs.Calls.{MessageFits, messageCheck}
-use Rattle.codes.proofs.Checking.{Code, code-of, generator-degree, generator-r, generator-pos, generator-lt, message-room, message-length}
+use Rattle.codes.proofs.Checking.{Code, code-of, generator-degree, generator-r, generator-pos, generator-lt}
+use Rattle.codes.proofs.Calls.{message-fits, message-below}
 use Rattle.codes.proofs.Coding.{product-word}
 
 module _ {n g r : ℕ} (code : Code n g) (w : Where (0 < g) (Degree g r) (r ≡ 0)) where
@@ -32,23 +33,15 @@ module _ {n g r : ℕ} (code : Code n g) (w : Where (0 < g) (Degree g r) (r ≡ 
   code-few = omega (arith, generator-r (code .generator) w, code .generator .most)
 
   -- a message of k = n - r cells
-  pub message-fits : (d : ℕ) → d / 2 ^ (n - r) ≡ 0 → MessageFits n g d
-  message-fits d e = record {
-    k = n - r;
-    long = message-room has (omega (arith, code-room)) refl;
-    below = high-zero d (n - r) e;
-  }
-
-  message-below : {d : ℕ} → MessageFits n g d → d < 2 ^ (n - r)
-  message-below f =
-      rw (message-length has (f .long)) at (f .below)
+  pub message-small : {d : ℕ} → d / 2 ^ (n - r) ≡ 0 → MessageFits n g d
+  message-small {d} e = message-fits code has (high-zero d (n - r) e)
 
   pub message-large : {d : ℕ} → (d / 2 ^ (n - r) ≡ 0 → ⊥) → MessageFits n g d → ⊥
-  message-large f h = f (div-eq-of-lt (message-below h))
+  message-large f h = f (div-eq-of-lt (message-below code has h))
 
   -- x^r times it has n digits
   pub message-shl : {d : ℕ} → MessageFits n g d → (d * 2 ^ r) % 2 ^ 64 ≡ d * 2 ^ r
-  message-shl f = shl-exact (n - r) r 64 (message-below f) (omega (arith, code-room, code .most))
+  message-shl f = shl-exact (n - r) r 64 (message-below code has f) (omega (arith, code-room, code .most))
 
   -- the systematic word
   pub systematic-made : {d q s : ℕ} → Where ((0 < g) × (g < 2 ^ 33)) (Divided (d * 2 ^ r) g q s) ((q ≡ 0) × (s ≡ 0)) → Systematic g d (sum (d * 2 ^ r) s)

@@ -13,18 +13,17 @@ use lib.Dec.{eqb}
 use lib.ListN.{getD}
 use lib.Pow.{pow-mono, shl-lt}
 use Rattle.poly.specs.Poly.{sum, times, Degree, Remainder}
-use Rattle.poly.proofs.Degree.{degree-unique, high-zero}
+use Rattle.poly.proofs.Degree.{high-zero}
 use Rattle.poly.proofs.Division.{lower-zero, divided-lower, quotient-unique}
 use Rattle.verdict.specs.Verdict.{Verdict, Tells}
 use Rattle.verdict.proofs.Verdict.{verdict-on, tells-yes, tells-no}
 use Rattle.codes.specs.Code.{codeChecks}
 use Rattle.codes.specs.Mending.{Pattern, Carries, carryChecks}
 use Rattle.codes.specs.Coding.{Systematic, Product, First}
-use Rattle.codes.specs.Calls.{MessageFits}
 use Rattle.codes.specs.Row.{patternAt, patternCount}
 use Rattle.codes.specs.Finding.{FindsCode}
 use Rattle.codes.proofs.Checking.{Code, Allowed, of-code, generator-pos}
-use Rattle.codes.proofs.Calls.{encodes-done, leaves-done}
+use Rattle.codes.proofs.Calls.{code-shorter, message-fits, encodes-done, leaves-done}
 use Rattle.codes.proofs.Coding.{quotient-product}
 use Rattle.codes.proofs.Finding.{code-refused, pattern-found, none-found, found-divides, found-decodes}
 use Rattle.families.specs.Families.{generators, pairs}
@@ -54,26 +53,13 @@ tells-below {A} w n a = go (eqb (w / 2 ^ n) 0) refl
 -- ---- a code that passes the checks 1 to 3, and the degree of its generator
 
 module _ {n g r : ℕ} (c : Code n g) (h : Degree g r) where
-  shorter : r < n
-  shorter = rw (degree-unique h (c .generator .degree)) (c .generator .room)
-
   pos : 0 < g
   pos = generator-pos (c .generator)
 
-  -- a message that fits is below 2^k, k = n - r
-  pub message-below : (d : ℕ) → d < 2 ^ (n - r) → MessageFits n g d
-  message-below d l = record { k = n - r; long = record { r = r; degree = h; whole = omega (arith, shorter) }; below = l }
-
-  pub message-above : (d : ℕ) → (d < 2 ^ (n - r) → ⊥) → MessageFits n g d → ⊥
-  message-above d z m =
-      let e : m .long .r ≡ r = degree-unique (m .long .degree) h in
-      let k : m .k ≡ n - r = omega (arith, m .long .whole) in
-      z (rw k at (m .below))
-
-  -- moved up by r it stays below 2^63
+  -- a message moved up by r stays below 2^63
   pub message-room : (d : ℕ) → d < 2 ^ (n - r) → d * 2 ^ r < 2 ^ 63
   message-room d l =
-      let all : n - r + r ≡ n = omega (arith, shorter) in
+      let all : n - r + r ≡ n = omega (arith, code-shorter c h) in
       lt-of-lt-of-le (rw all at (shl-lt (n - r) r l)) (pow-mono {j = 63} (c .most))
 
   -- ---- encoders, and the remainder
@@ -81,13 +67,13 @@ module _ {n g r : ℕ} (c : Code n g) (h : Degree g r) where
   pub answers-systematic : (rule d : ℕ) {s : ℕ} → rule ≡ 0 → d < 2 ^ (n - r) → Remainder (d * 2 ^ r) g s
       → Answered E n g rule d 0 0 (sum (d * 2 ^ r) s)
   answers-systematic rule d {s} o z v =
-      let m = message-below d z in
+      let m = message-fits c h z in
       called E o m (omega arith) (omega arith)
       (encodes-done c Systematic m (record { r = r; degree = h; rest = s; remainder = v; word = refl }), refl)
 
   pub answers-product : (rule d : ℕ) {v : ℕ} → rule ≡ 0 → d < 2 ^ (n - r) → v ≡ times d g → Answered P n g rule d 0 0 v
   answers-product rule d o z e =
-      let m = message-below d z in called P o m (omega arith) (omega arith) (encodes-done c Product m e, refl)
+      let m = message-fits c h z in called P o m (omega arith) (omega arith) (encodes-done c Product m e, refl)
 
   pub answers-remainder : (rule w : ℕ) {s : ℕ} → rule ≡ 0 → w < 2 ^ n → Remainder w g s → Answered S n g rule w 0 0 s
   answers-remainder rule w o l v =

@@ -7,7 +7,8 @@ use borrow.Author.Needs.{needs}
 use borrow.Author.Tests.{not-true, not-false}
 use Rattle.tables.proofs.Entering.{family-cells, family-bounds}
 use Rattle.records.specs.Records.{E}
-use Rattle.records.proofs.Answering.{nine, message-above, message-room, answers-systematic, checked}
+use Rattle.codes.proofs.Calls.{message-below}
+use Rattle.records.proofs.Answering.{nine, message-room, answers-systematic, checked}
 use Rattle.records.proofs.jobs.systematic.Statement.{statement}
 use Rattle.records.proofs.jobs.systematic.Tie as tie
 
@@ -26,7 +27,7 @@ returns c =
     let s = t .before .before in
     let no = t .before .allowed .ensures .no (not-true _ (t .if1 .taken)) in
     rw (c .refused .ensures .0, c .refused .ensures .1, c .refused .ensures .2)
-    (nine E λ o m. message-above (checked (s .pre .1)) (s .pre .1 .degree) (s .args .d) (λ l. no (o, l)) m)
+    (nine E λ o m. no (o, message-below (checked (s .pre .1)) (s .pre .1 .degree) m))
 
 shl-x : tie.Need-shl-x
 shl-x c = omega (arith, family-bounds (c .before .before .pre .1) .1)

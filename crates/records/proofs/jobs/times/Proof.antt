@@ -8,7 +8,8 @@ use Rattle.poly.proofs.Degree.{degree-unique}
 use Rattle.families.proofs.Families.{family-pos, family-small}
 use Rattle.tables.proofs.Entering.{family-cells, family-bounds}
 use Rattle.records.specs.Records.{P}
-use Rattle.records.proofs.Answering.{nine, message-above, message-room, answers-product, checked}
+use Rattle.codes.proofs.Calls.{message-below}
+use Rattle.records.proofs.Answering.{nine, message-room, answers-product, checked}
 use Rattle.records.proofs.jobs.times.Statement.{statement}
 use Rattle.records.proofs.jobs.times.Tie as tie
 
@@ -27,7 +28,7 @@ returns c =
     let s = t .before .before in
     let no = t .before .allowed .ensures .no (not-true _ (t .if1 .taken)) in
     rw (c .refused .ensures .0, c .refused .ensures .1, c .refused .ensures .2, s .pre .1)
-    (nine P λ o m. message-above (checked (s .pre .0)) (s .pre .0 .degree) (s .args .d) (λ l. no (o, l)) m)
+    (nine P λ o m. no (o, message-below (checked (s .pre .0)) (s .pre .0 .degree) m))
 
 -- the message fits
 fine : (c : tie.Else1) → (c .before .before .args .rule ≡ 0) × (c .before .before .args .d < 2 ^ (c .before .before .args .n - c .before .before .args .r))
