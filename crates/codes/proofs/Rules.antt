@@ -1,6 +1,6 @@
--- The patterns of rules 0 to 2 are such a set.
+-- The patterns of rules 0 to 2 are such a set, and every code carries rule 0.
 -- Assumes nothing.
-use mathlib.Core.Path.{_≡_, ap}
+use mathlib.Core.Path.{_≡_, refl, sym, ap, _∙_}
 use mathlib.Core.Logic.{_⊎_, inl, inr}
 use Prim.Native.Nat.{ℕ, suc, _-_, _%_, _^_, _≤_, _<_}
 use native.Mathlib.Nat.{zero-div}
@@ -9,7 +9,8 @@ use lib.Pow.{pow-pos, pow-lt}
 use Rattle.poly.specs.Poly.{sum, coefficient}
 use Rattle.poly.proofs.Sum.{sum-lt, sum-self, sum-back, sum-comm, sum-assoc, sum-zero}
 use Rattle.poly.proofs.Coefficient.{power-place, pair-place}
-use Rattle.codes.specs.Mending.{Pattern, none, single, pair, ends, Carries}
+use Rattle.verdict.specs.Verdict.{Passed}
+use Rattle.codes.specs.Mending.{Pattern, none, single, pair, ends, Carries, carryChecks}
 use Rattle.codes.proofs.Patterns.{Laws}
 
 module _ (n : ℕ) (P : ℕ → Type 0) (one : (i : ℕ) → i < n → P (2 ^ i)) where
@@ -38,3 +39,14 @@ module _ {n : ℕ} (rule : ℕ) (least : 2 ≤ n) where
 
   pub rule-laws : {g : ℕ} → Carries (Pattern n rule) g → Laws (Pattern n rule) n g
   rule-laws c = record { empty = none; part = λ e i p h. pattern-part i p h; inside = λ e p. pattern-inside p; carried = c }
+
+-- rule 0 has the empty pattern only
+pattern-none : {n e : ℕ} → Pattern n 0 e → e ≡ 0
+pattern-none none = refl
+pattern-none (single i h k) = let f : ⊥ = omega arith in absurd f
+pattern-none (pair i h k) = let f : ⊥ = omega arith in absurd f
+pattern-none (ends k) = let f : ⊥ = omega arith in absurd f
+
+-- so every code carries it
+pub rule-0-carried : {n g : ℕ} → Passed (carryChecks n g 0)
+rule-0-carried = (omega arith, ((λ e f s p q h k. pattern-none p ∙ sym (pattern-none q)), tt))
