@@ -261,10 +261,15 @@ module _ {A B : Type 0} (told : A → B) (none : B) (same : Discrete B) where
           let j : TakesSecond n g rule a b → ⊥ = λ t. f (ap told (p .takesSecond t ∙ sym (q .takesSecond t))) in
           p .takesNone i j ∙ sym (q .takesNone i j)
 
--- the cells handed back: those of the slice taken, or none
+-- the cells handed back, and the slice itself where a word is taken
 pub better-settled : {A : Type 0} (cells : A → List ℕ) {n g rule : ℕ} {a b : List ℕ} {first second r s : A}
-    → Picks n g rule a b first second (λ h. cells h ≡ []) r → Picks n g rule a b first second (λ h. cells h ≡ []) s → cells r ≡ cells s
-better-settled cells = picks-settled cells [] (List-discrete ℕ-discrete)
+    → Picks n g rule a b first second (λ h. cells h ≡ []) r → Picks n g rule a b first second (λ h. cells h ≡ []) s
+    → (cells r ≡ cells s) × (TakesFirst n g rule a b ⊎ TakesSecond n g rule a b → r ≡ s)
+better-settled cells {n} {g} {rule} {a} {b} {r = r} {s = s} p q = (picks-settled cells [] (List-discrete ℕ-discrete) p q, slice)
+  where
+    slice : TakesFirst n g rule a b ⊎ TakesSecond n g rule a b → r ≡ s
+    slice (inl t) = p .takesFirst t ∙ sym (q .takesFirst t)
+    slice (inr t) = p .takesSecond t ∙ sym (q .takesSecond t)
 
 pub better-word-settled : {n g rule v w : ℕ} {a b : List ℕ} → Picks n g rule a b 1 2 (λ h. h ≡ 0) v → Picks n g rule a b 1 2 (λ h. h ≡ 0) w → v ≡ w
 better-word-settled = picks-settled (λ h. h) 0 ℕ-discrete
