@@ -41,14 +41,10 @@ fn put_checks(letter: u8, head: Head, out: &mut [u8], at: usize) -> usize {
     text::put_number(out, at, codes::check_rule(head.n, head.g, head.rule))
 }
 
-fn put_family(family: u64, out: &mut [u8], at: usize) -> usize {
-    let next = put_two(
-        out,
-        at,
-        families::length_of(family) as u64,
-        families::generator_of(family),
-    );
-    put_next(out, next, families::pairs_of(family) as u64)
+fn put_family(number: u64, out: &mut [u8], at: usize) -> usize {
+    let family = families::family_of(number);
+    let next = put_two(out, at, family.n as u64, family.g);
+    put_next(out, next, family.pairs as u64)
 }
 
 // K: n g. k: n g rule. F: a family.

@@ -42,13 +42,14 @@ fn first_number(dividend: &[u8], divisor: u64, lent: usize) -> u64
     0
 }
 
-// One shift of the register, with input at the high side or at the low side.
+// One shift of the register, with input at the high side or at the low side. At the high side the feedback is the top stage plus the input.
 fn shift(high: bool, r: usize, g: u64, s: u64, c: u64) -> u64
     requires { ⌜ Ready r g s c ⌝ }
     ensures { λ t. ⌜ t ≡ shiftAt high r g s c ⌝ }
 {
     if high {
-        return poly::high_shift(r, g, s, c);
+        let t = (s * 2) ^ (c << r);
+        return t ^ ((t >> r) * g);
     }
     poly::low_shift(r, g, s, c)
 }

@@ -18,6 +18,7 @@ use Rattle.verdict.proofs.Bool.{is-true, and-left, and-right, eachBelow, each-a
 use Rattle.codes.specs.Mending.{Pattern, Carries, ruleChecks}
 use Rattle.codes.proofs.Checking.{Code, allowed-of, of-allowed, generator-pos}
 use Rattle.families.specs.Families.{lengths, generators, pairs, numbered, lengthOf, generatorOf, pairsOf, Shown}
+use Rattle.families.specs.declared.Family.{Family}
 use Rattle.families.proofs.Carrying.{carries, carries-tells}
 
 -- ---- the tests of one family
@@ -158,14 +159,9 @@ module _ {A : Type 0} (none : A) (row : List A) where
   entry i = ap (numbered none row) (add-one i)
 
 -- two results of one call
-pub length-of-settled : (f : ℕ) {n m : ℕ} → n ≡ lengthOf f → m ≡ lengthOf f → n ≡ m
-length-of-settled f a b = a ∙ sym b
-
-pub generator-of-settled : (f : ℕ) {g h : ℕ} → g ≡ generatorOf f → h ≡ generatorOf f → g ≡ h
-generator-of-settled f a b = a ∙ sym b
-
-pub pairs-of-settled : (f : ℕ) {a b : Bool} → a ≡ pairsOf f → b ≡ pairsOf f → a ≡ b
-pairs-of-settled f a b = a ∙ sym b
+pub family-of-settled : (f : ℕ) {x y : Family} → (x .n ≡ lengthOf f) × (x .g ≡ generatorOf f) × (x .pairs ≡ pairsOf f)
+    → (y .n ≡ lengthOf f) × (y .g ≡ generatorOf f) × (y .pairs ≡ pairsOf f) → x ≡ y
+family-of-settled f {x} {y} a b = rw (a .0 ∙ sym (b .0), a .1 ∙ sym (b .1), a .2 ∙ sym (b .2))
 
 pub all-lengths-settled : {a b : List ℕ} → a ≡ lengths → b ≡ lengths → a ≡ b
 all-lengths-settled a b = a ∙ sym b

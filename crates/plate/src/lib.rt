@@ -222,7 +222,7 @@ pub extern "C" fn plate_better_number(
 pub extern "C" fn plate_family_length(family: u64) -> usize
     ensures { λ n. ⌜ n ≡ lengthOf family ⌝ }
 {
-    families::length_of(family)
+    families::family_of(family).n
 }
 
 // The generator of a family, numbered from 1; 0 where there is none.
@@ -230,7 +230,7 @@ pub extern "C" fn plate_family_length(family: u64) -> usize
 pub extern "C" fn plate_family_generator(family: u64) -> u64
     ensures { λ g. ⌜ g ≡ generatorOf family ⌝ }
 {
-    families::generator_of(family)
+    families::family_of(family).g
 }
 
 // Whether a family carries rule 2; false where there is no such family.
@@ -238,5 +238,5 @@ pub extern "C" fn plate_family_generator(family: u64) -> u64
 pub extern "C" fn plate_family_pairs(family: u64) -> bool
     ensures { λ b. ⌜ b ≡ pairsOf family ⌝ }
 {
-    families::pairs_of(family)
+    families::family_of(family).pairs
 }

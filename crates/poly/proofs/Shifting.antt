@@ -2,7 +2,7 @@
 -- Assumes nothing.
 use mathlib.Core.Path.{_≡_, sym, ap, _∙_}
 use Prim.Native.Nat.{ℕ, suc, _+_, _-_, _*_, _/_, _%_, _^_, _≤_, _<_}
-use native.Mathlib.Nat.{lt-of-lt-of-le, mul-one}
+use native.Mathlib.Nat.{lt-of-lt-of-le}
 use native.Mathlib.Omega.{arith}
 use lib.Dec.{lit<}
 use lib.Pow.{pow-pos, pow-mono, shl-exact}
@@ -10,7 +10,7 @@ use Rattle.verdict.specs.Verdict.{Where}
 use Rattle.verdict.proofs.Verdict.{where-settled, where-value}
 use Rattle.poly.specs.Poly.{sum, coefficient, Degree, Divided, Remainder}
 use Rattle.poly.specs.Shifts.{Ready, reduce, low, high}
-use Rattle.poly.proofs.Sum.{sum-lt, sum-digit, on-digit}
+use Rattle.poly.proofs.Sum.{sum-lt, on-digit}
 use Rattle.poly.proofs.Degree.{degree-unique}
 use Rattle.poly.proofs.Division.{lower-lt, top-digit, divided-low, quotient-unique, remainder-of, remainder-unique}
 use Rattle.poly.proofs.Coefficient.{coefficient-lt, div-digit}
@@ -22,23 +22,28 @@ module _ {r g s c : ℕ} (h : Ready r g s c) where
   pub low-fits : s * 2 + c < 2 ^ suc r
   low-fits = omega (arith, h .register, h .input)
 
-  -- an input at x^i, i up to r, as the machine shifts it
-  module _ {i : ℕ} (l : i ≤ r) where
-    exact : (c * 2 ^ i) % 2 ^ 64 ≡ c * 2 ^ i
-    exact = shl-exact 1 i 64 (h .input) (omega (arith, h .most))
+  -- at the high side: what a word of the machine holds of the register moved up with the input above it
+  abbrev moved : ℕ
+  moved = sum (s * 2) ((c * 2 ^ r) % 2 ^ 64)
 
-    pub input-fits : sum (s * 2) ((c * 2 ^ i) % 2 ^ 64) < 2 ^ suc r
-    input-fits =
-        rw exact
-        (sum-lt (suc r) (s * 2) (c * 2 ^ i) (omega (arith, h .register))
-        (on-digit (λ (x : ℕ). x * 2 ^ i < 2 ^ suc r) (omega (arith, pow-pos r)) (omega (arith, pow-mono l, pow-pos r)) c (h .input)))
+  exact : (c * 2 ^ r) % 2 ^ 64 ≡ c * 2 ^ r
+  exact = shl-exact 1 r 64 (h .input) (omega (arith, h .most))
 
-    pub input-shifted : {t : ℕ} → t ≡ reduce r g (sum (s * 2) ((c * 2 ^ i) % 2 ^ 64)) → t ≡ reduce r g (sum (s * 2) (c * 2 ^ i))
-    input-shifted e = rw exact at e
+  moved-fits : moved < 2 ^ suc r
+  moved-fits =
+      rw exact
+      (sum-lt (suc r) (s * 2) (c * 2 ^ r) (omega (arith, h .register))
+      (on-digit (λ (x : ℕ). x * 2 ^ r < 2 ^ suc r) (omega (arith, pow-pos r)) (omega (arith, pow-pos r)) c (h .input)))
 
-  -- at the low side it is the lowest digit
-  pub input-low : {t : ℕ} → t ≡ reduce r g (sum (s * 2) (c * 2 ^ 0)) → t ≡ low r g s c
-  input-low e = rw (mul-one, sum-digit s c (h .input)) at e
+  -- its feedback times g fits too, and added to it makes the shift
+  pub high-fed : moved / 2 ^ r * g < 2 ^ 64
+  high-fed =
+      let g-small : g < 2 ^ 33 = lt-of-lt-of-le (h .degree .below) (pow-mono {j = 33} (omega (arith, h .most))) in
+      on-digit (λ (x : ℕ). x * g < 2 ^ 64) (omega arith) (omega arith) (moved / 2 ^ r) (top-digit r moved moved-fits)
+
+  pub high-shifted : sum moved (moved / 2 ^ r * g) ≡ high r g s c
+  unfolding reduce
+  high-shifted = ap (reduce r g) (ap (sum (s * 2)) exact)
 
 -- a remainder can be shifted with no input
 pub zero-ready : {p g r s : ℕ} → Degree g r → r ≤ 32 → Remainder p g s → Ready r g s 0
@@ -78,9 +83,5 @@ divide-number-settled a b = (
   where-settled (λ h. remainder-unique (remainder-of (a .holds h)) (remainder-of (b .holds h))) (λ f. a .fails f .1 ∙ sym (b .fails f .1)),
 )
 
-module _ {r g s c t u : ℕ} where
-  pub low-shift-settled : Where (Ready r g s c) (t ≡ low r g s c) (t ≡ 0) → Where (Ready r g s c) (u ≡ low r g s c) (u ≡ 0) → t ≡ u
-  low-shift-settled = where-value
-
-  pub high-shift-settled : Where (Ready r g s c) (t ≡ high r g s c) (t ≡ 0) → Where (Ready r g s c) (u ≡ high r g s c) (u ≡ 0) → t ≡ u
-  high-shift-settled = where-value
+pub low-shift-settled : {r g s c t u : ℕ} → Where (Ready r g s c) (t ≡ low r g s c) (t ≡ 0) → Where (Ready r g s c) (u ≡ low r g s c) (u ≡ 0) → t ≡ u
+low-shift-settled = where-value

@@ -3,7 +3,7 @@ ghost use mathlib.Core.Path.{_≡_};
 ghost use Prim.Native.Nat.{suc, _+_, _*_, _^_, _≤_, _<_};
 ghost use Rattle.verdict.specs.Verdict.{Tells, Where};
 ghost use Rattle.poly.specs.Poly.{sum, times, Degree, Divided};
-ghost use Rattle.poly.specs.Shifts.{Ready, reduce, low, high};
+ghost use Rattle.poly.specs.Shifts.{Ready, reduce, low};
 
 // The degree of p, by the leading zeros of the number; 0 where p is 0, which has none.
 pub fn degree_of(p: u64) -> usize
@@ -45,29 +45,14 @@ fn reduced(r: usize, g: u64, t: u64) -> u64
     t ^ g
 }
 
-// One shift of the register s of r stages by g, with input c at x^i; 0 where they do not fit together.
-fn shifted(r: usize, g: u64, s: u64, c: u64, i: usize) -> u64
-    requires { ⌜ i ≤ r ⌝ }
-    ensures { λ t. ⌜ Where (Ready r g s c) (t ≡ reduce r g (sum (s * 2) (c * 2 ^ i))) (t ≡ 0) ⌝ }
+// One shift of the register s of r stages by g, with input c at the low side; 0 where they do not fit together.
+pub fn low_shift(r: usize, g: u64, s: u64, c: u64) -> u64
+    ensures { λ t. ⌜ Where (Ready r g s c) (t ≡ low r g s c) (t ≡ 0) ⌝ }
 {
     if !ready(r, g, s, c) {
         return 0;
     }
-    reduced(r, g, (s * 2) ^ (c << i))
-}
-
-// The shift with the input at the low side.
-pub fn low_shift(r: usize, g: u64, s: u64, c: u64) -> u64
-    ensures { λ t. ⌜ Where (Ready r g s c) (t ≡ low r g s c) (t ≡ 0) ⌝ }
-{
-    shifted(r, g, s, c, 0)
-}
-
-// At the high side.
-pub fn high_shift(r: usize, g: u64, s: u64, c: u64) -> u64
-    ensures { λ t. ⌜ Where (Ready r g s c) (t ≡ high r g s c) (t ≡ 0) ⌝ }
-{
-    shifted(r, g, s, c, r)
+    reduced(r, g, s * 2 + c)
 }
 
 pub struct Parts {

@@ -165,7 +165,8 @@ fn highest(f: usize) -> u64
     requires { ⌜ f < 12 ⌝ }
     ensures { λ m. ⌜ m ≡ highestOf f ⌝ }
 {
-    if families::pairs_of((f + 1) as u64) {
+    let family = families::family_of((f + 1) as u64);
+    if family.pairs {
         return 2;
     }
     1

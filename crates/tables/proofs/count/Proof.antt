@@ -11,18 +11,18 @@ use Rattle.families.proofs.Families.{entry, family-code, family-long}
 use Rattle.tables.proofs.count.Statement.{statement}
 use Rattle.tables.proofs.count.Tie as tie
 
-add-pairs-of : tie.Need-add-pairs-of
-add-pairs-of c = search needs
+add-family-of : tie.Need-add-family-of
+add-family-of c = search needs
 
-pairs-of-requires : tie.Need-pairs-of-requires
-pairs-of-requires c κs = search needs
+family-of-requires : tie.Need-family-of-requires
+family-of-requires c κs = search needs
 
-cells : (c : tie.After-pairs-of) → c .before .args .n ≤ 63
+cells : (c : tie.After-family-of) → c .before .args .n ≤ 63
 cells c = rw (c .before .pre .1) (family-code (c .before .args .f) (c .before .pre .0) .most)
 
 -- whether the family carries rule 2
-told : {b : Bool} (c : tie.After-pairs-of) → c .pairs-of .result ≡ b → getD pairs (c .before .args .f) false ≡ b
-told c e = sym (entry false pairs (c .before .args .f)) ∙ sym (c .pairs-of .ensures) ∙ e
+told : {b : Bool} (c : tie.After-family-of) → c .family-of .result .pairs ≡ b → getD pairs (c .before .args .f) false ≡ b
+told c e = sym (entry false pairs (c .before .args .f)) ∙ sym (c .family-of .ensures .2) ∙ e
 
 mul-result : tie.Need-mul-result
 mul-result c = omega (arith, cells (c .before))
@@ -46,4 +46,4 @@ returns-2 c =
 pub count-spec : {M : Type 1} → statement M
 count-spec =
     tie.close
-    (tie.spec add-pairs-of pairs-of-requires mul-result add-result returns add-result-2 returns-2)
+    (tie.spec add-family-of family-of-requires mul-result add-result returns add-result-2 returns-2)

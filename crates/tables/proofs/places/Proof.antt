@@ -32,27 +32,24 @@ loop-holds c = (
   },
 )
 
-add-family : tie.Need-add-family Inv-loop μ-loop
-add-family c = search needs
+add-family-of : tie.Need-add-family-of Inv-loop μ-loop
+add-family-of c = search needs
 
-length-of-requires : tie.Need-length-of-requires Inv-loop μ-loop
-length-of-requires c κs = search needs
-
-generator-of-requires : tie.Need-generator-of-requires Inv-loop μ-loop
-generator-of-requires c κs = search needs
+family-of-requires : tie.Need-family-of-requires Inv-loop μ-loop
+family-of-requires c κs = search needs
 
 degree-of-requires : tie.Need-degree-of-requires Inv-loop μ-loop
 degree-of-requires c κs = search needs
 
 -- the family
-family : (c : tie.After-degree-of Inv-loop μ-loop) → Family (c .before .before .before .before .loop .f) (c .before .before .length-of .result) (c .degree-of .result)
+family : (c : tie.After-degree-of Inv-loop μ-loop) → Family (c .before .before .before .loop .f) (c .before .family-of .result .n) (c .degree-of .result)
 family c =
-    let f = c .before .before .before .before .loop .f in
-    let l : f < 12 = c .before .before .before .loop-test .taken in
-    let g : c .before .generator-of .result ≡ getD generators f 0 = c .before .generator-of .ensures ∙ entry 0 generators f in
+    let f = c .before .before .before .loop .f in
+    let l : f < 12 = c .before .before .loop-test .taken in
+    let g : c .before .family-of .result .g ≡ getD generators f 0 = c .before .family-of .ensures .1 ∙ entry 0 generators f in
     record {
       row = l;
-      length = c .before .before .length-of .ensures ∙ entry 0 lengths f;
+      length = c .before .family-of .ensures .0 ∙ entry 0 lengths f;
       degree = rw g at (c .degree-of .ensures .holds (rw g (family-pos f l)));
     }
 
@@ -63,10 +60,10 @@ enter-requires : tie.Need-enter-requires Inv-loop μ-loop
 enter-requires c κs =
     let d = c .before .before .before in
     let h = family d in
-    let l = d .before .before .before .before .loop in (
-      d .before .before .before .before .before .parts .ensures,
+    let l = d .before .before .before .loop in (
+      d .before .before .before .before .parts .ensures,
       h,
-      rw (c .count .ensures) (count-le (d .before .before .length-of .result) (highest (l .f))),
+      rw (c .count .ensures) (count-le (d .before .family-of .result .n) (highest (l .f))),
       l .inv .1 .long,
       rw (h .length) (l .inv .1 .above (l .f) (omega arith) (h .row)),
     )
@@ -81,7 +78,7 @@ loop-again : tie.Need-loop-again Inv-loop μ-loop
 loop-again c =
     let d = c .before .before .before .before in
     let h = family d in
-    let l = d .before .before .before .before .loop in
+    let l = d .before .before .before .loop in
     (omega arith, filled-more (l .f) (l .t) _ (h .row) (c .enter .ensures .0 .0) (rw (c .before .count .ensures, h .length) at (c .enter .ensures .0 .1)) (c .enter .ensures .1) (l .inv .1))
 
 returns : tie.Need-returns Inv-loop μ-loop
@@ -98,9 +95,8 @@ places-spec =
     μ-loop
     parts-requires
     loop-holds
-    add-family
-    length-of-requires
-    generator-of-requires
+    add-family-of
+    family-of-requires
     degree-of-requires
     count-requires
     enter-requires

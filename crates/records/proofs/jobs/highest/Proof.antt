@@ -8,14 +8,14 @@ use Rattle.families.proofs.Families.{entry}
 use Rattle.records.proofs.jobs.highest.Statement.{statement}
 use Rattle.records.proofs.jobs.highest.Tie as tie
 
-add-pairs-of : tie.Need-add-pairs-of
-add-pairs-of c = search needs
+add-family-of : tie.Need-add-family-of
+add-family-of c = search needs
 
-pairs-of-requires : tie.Need-pairs-of-requires
-pairs-of-requires c κs = search needs
+family-of-requires : tie.Need-family-of-requires
+family-of-requires c κs = search needs
 
-told : {b : Bool} (c : tie.After-pairs-of) → c .pairs-of .result ≡ b → getD pairs (c .before .args .f) false ≡ b
-told c e = sym (entry false pairs (c .before .args .f)) ∙ sym (c .pairs-of .ensures) ∙ e
+told : {b : Bool} (c : tie.After-family-of) → c .family-of .result .pairs ≡ b → getD pairs (c .before .args .f) false ≡ b
+told c e = sym (entry false pairs (c .before .args .f)) ∙ sym (c .family-of .ensures .2) ∙ e
 
 returns : tie.Need-returns
 returns c = rw (told (c .before) (c .if1 .taken))
@@ -24,4 +24,4 @@ returns-2 : tie.Need-returns-2
 returns-2 c = rw (told (c .before) (c .if1 .left))
 
 pub highest-spec : {M : Type 1} → statement M
-highest-spec = tie.close (tie.spec add-pairs-of pairs-of-requires returns returns-2)
+highest-spec = tie.close (tie.spec add-family-of family-of-requires returns returns-2)
