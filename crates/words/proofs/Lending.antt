@@ -22,7 +22,7 @@ use Rattle.codes.specs.Coding.{Systematic, Product, Decoded}
 use Rattle.codes.specs.Calls.{MessageFits, messageCheck, wordCheck, readableCheck, slicesCheck, Encodes, Decodes, EncodesCells, DecodesCells, Written}
 use Rattle.codes.proofs.Checking.{Code, Allowed, code-of, of-code, allowed-of, of-allowed, generator-degree, generator-r, message-room, message-length}
 use Rattle.codes.proofs.Coding.{systematic-first, product-word, first-fits, product-fits}
-use Rattle.words.specs.Within.{word-of, message-of}
+use Rattle.words.specs.Within.{lengthsCheck, word-of, message-of}
 use Rattle.codes.proofs.Cutting.{first-number, first-passed}
 
 -- ---- cells that stand for a number
@@ -61,8 +61,13 @@ module _ {n g r : ℕ} (code : Code n g) (w : Where (0 < g) (Degree g r) (r ≡ 
   pub length-right : {k : ℕ} → k ≡ n - r → MessageLength n g k
   length-right = message-room has length-room
 
-  pub length-wrong : {k : ℕ} → (k ≡ n - r → ⊥) → MessageLength n g k → ⊥
-  length-wrong f l = f (message-length has l)
+  -- the check of both lengths fails by a message of another length
+  pub message-wrong : {k l : ℕ} → (k ≡ n - r → ⊥) → lengthsCheck n g k l .passes → ⊥
+  message-wrong f h = f (message-length has (h .0))
+
+-- and by a word of another
+pub word-wrong : {n g k l : ℕ} → (l ≡ n → ⊥) → lengthsCheck n g k l .passes → ⊥
+word-wrong f h = f (h .1)
 
 -- ---- encoders
 

@@ -3,7 +3,7 @@ use mathlib.Core.Logic.{inl, inr}
 use mathlib.Core.Path.{refl}
 use borrow.Author.Needs.{needs}
 use Rattle.cells.proofs.Lent.{first-bad-cells, first-bad-none}
-use Rattle.words.proofs.Lending.{length-room, length-right, length-wrong}
+use Rattle.words.proofs.Lending.{length-room, length-right, message-wrong, word-wrong}
 use Rattle.words.proofs.lent_number.Statement.{statement}
 use Rattle.words.proofs.lent_number.Tie as tie
 
@@ -14,10 +14,10 @@ sub-if1 : tie.Need-sub-if1
 sub-if1 c = length-room (c .before .before .pre) (c .degree-of .ensures)
 
 returns : tie.Need-returns
-returns c = inl ((λ h. length-wrong (c .before .before .before .pre) (c .before .degree-of .ensures) (c .if1 .taken) (h .0)), refl)
+returns c = inl (message-wrong (c .before .before .before .pre) (c .before .degree-of .ensures) (c .if1 .taken), refl)
 
 returns-2 : tie.Need-returns-2
-returns-2 c = inl ((λ h. c .if2 .taken (h .1)), refl)
+returns-2 c = inl (word-wrong (c .if2 .taken), refl)
 
 first-bad-requires : tie.Need-first-bad-requires
 first-bad-requires c κs = search needs
