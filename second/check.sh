@@ -1,6 +1,7 @@
 #!/bin/sh
 # Generates the inputs and outputs of the programs `strips` and `calls` anew and compares them with those beside the two.
 set -eu
+unset CDPATH
 
 second=$(cd "$(dirname "$0")" && pwd)
 fresh=$(mktemp -d)

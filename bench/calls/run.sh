@@ -1,6 +1,7 @@
 #!/bin/sh
 # Builds the proved library and times its calls beside the same work in C.
 set -eu
+unset CDPATH
 cd "$(dirname "$0")/../.."
 [ -f target/staticlib/libplate.a ] || rt staticlib plate >/dev/null
 out=$(mktemp -d)

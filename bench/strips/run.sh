@@ -1,6 +1,7 @@
 #!/bin/sh
 # Times the C program and the proved one on the same records, the best of five runs each, and compares their lines.
 set -eu
+unset CDPATH
 
 here=$(cd "$(dirname "$0")" && pwd)
 repository=$(cd "$here/../.." && pwd)

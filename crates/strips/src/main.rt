@@ -87,11 +87,19 @@ fn lines() -> [u8; 1048640]
     [0; 1048640]
 }
 
+// Block after block. The loop ends with the input; that it ends at all is proved by a count of blocks, far above any input there is.
 fn main() {
     let mut block = block();
     let mut out = lines();
-    let mut turns = u64::MAX;
-    while turns > 0 && one_block(&mut block, &mut out) {
-        turns -= 1;
+    let mut left = u64::MAX;
+    while one_block(&mut block, &mut out) {
+        if left == 0 {
+            io::write_all(
+                STDERR_FILENO,
+                b"strips: there is more input than it can count\n",
+            );
+            return;
+        }
+        left -= 1;
     }
 }

@@ -1,4 +1,4 @@
--- Turn after turn; the count of turns falls.
+-- Block after block; the count of those that may come falls.
 use mathlib.Core.Path.{_≡_}
 use lib.ListN.{length}
 use borrow.Author.Needs.{needs}
@@ -6,10 +6,10 @@ use Rattle.strips.proofs.main.Statement.{statement}
 use Rattle.strips.proofs.main.Tie as tie
 
 abbrev Inv-loop : tie.InvT-loop
-Inv-loop block₀ out₀ turns₀ block out turns = (length block ≡ 262144) × (length out ≡ 1048640)
+Inv-loop block₀ out₀ left₀ t4 block out left = (length block ≡ 262144) × (length out ≡ 1048640)
 
 abbrev μ-loop : tie.MeasureT-loop
-μ-loop block₀ out₀ turns₀ block out turns = turns
+μ-loop block₀ out₀ left₀ t4 block out left = left
 
 block-requires : tie.Need-block-requires Inv-loop μ-loop
 block-requires c κs = search needs
@@ -29,8 +29,17 @@ slice-aggregate-one-block-2 c = search needs
 one-block-requires : tie.Need-one-block-requires Inv-loop μ-loop
 one-block-requires c κs = search needs
 
-sub-turns : tie.Need-sub-turns Inv-loop μ-loop
-sub-turns c = search needs
+slice-aggregate-write-all : tie.Need-slice-aggregate-write-all Inv-loop μ-loop
+slice-aggregate-write-all c = search needs
+
+write-all-requires : tie.Need-write-all-requires Inv-loop μ-loop
+write-all-requires c κs = search needs
+
+returns : tie.Need-returns Inv-loop μ-loop
+returns c = search needs
+
+sub-left : tie.Need-sub-left Inv-loop μ-loop
+sub-left c = search needs
 
 loop-less : tie.Need-loop-less Inv-loop μ-loop
 loop-less c = search needs
@@ -38,11 +47,8 @@ loop-less c = search needs
 loop-again : tie.Need-loop-again Inv-loop μ-loop
 loop-again c = search needs
 
-returns : tie.Need-returns Inv-loop μ-loop
-returns c = tt
-
 returns-2 : tie.Need-returns-2 Inv-loop μ-loop
-returns-2 c = tt
+returns-2 c = search needs
 
 pub main-spec : {M : Type 1} → statement M
 main-spec =
@@ -56,8 +62,10 @@ main-spec =
     slice-aggregate-one-block
     slice-aggregate-one-block-2
     one-block-requires
-    sub-turns
+    slice-aggregate-write-all
+    write-all-requires
+    returns
+    sub-left
     loop-less
     loop-again
-    returns
     returns-2)
