@@ -42,3 +42,10 @@ for link in $(sed -n '/^1\. /,/^$/p' docs/READING.md | grep -o '(\.\./crates/[a-
 done
 grep -q " have $believed lines" docs/READING.md || { echo "tests: the files that docs/READING.md lists have $believed lines"; exit 1; }
 echo "tests: docs/READING.md counts right"
+
+# docs/PROMISES.md names each wrong program that the gate tries.
+for edit in crates/*/must-fail/*.edit; do
+    name=$(basename "$edit" .edit)
+    grep -q "\`$name\`" docs/PROMISES.md || { echo "tests: docs/PROMISES.md does not name $edit"; exit 1; }
+done
+echo "tests: docs/PROMISES.md names every wrong program"

@@ -31,7 +31,7 @@ MUTANTS = [
     ("what the program says held back", SCRIPT, "printf '%s\\n' \"$said\" >&2; exit 1;", "exit 1;"),
     ("no status of what it says", SCRIPT, "wait \"$watcher\" || exit 1", "wait \"$watcher\""),
     ("no status of a breakdown", SCRIPT, "[ \"$status\" -eq 0 ] ||", "true ||"),
-    ("a signal not passed on", SCRIPT, "    kill -s TERM \"$!\"\n    wait \"$!\" \"$watcher\"\n", ""),
+    ("a signal not passed on", SCRIPT, "    kill -s TERM \"$!\" 2>/dev/null\n    wait \"$!\" \"$watcher\"\n", ""),
     ("no signal waited for", SCRIPT, "trap 'ended 143' TERM", ":"),
     ("what it says through a file", SCRIPT, "exec 3> >(said=$(cat);", "file=$(mktemp) || exit 2; exec 3> >(said=$(cat);"),
 ]

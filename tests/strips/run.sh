@@ -90,7 +90,8 @@ sh_gives 1 "" './strips <examples/plates.bin >/dev/full 2>&-'
 sh_gives 1 "" './strips <examples/plates.bin >&- 2>&-'
 sh_gives 1 "" './strips <&- 2>&-'
 sh_gives 1 "" './strips <&- >&- 2>&-'
-sh_gives 2 "strips: the program broke down (status 139)" 'ulimit -s 512; ./strips <examples/plates.bin 2> >(grep -v "Segmentation fault" >&2)'
+sh_gives 2 "strips: the program broke down (status 139)" \
+    'ulimit -c 0 -s 512; ./strips <examples/plates.bin 2>&1 >/dev/null | grep -v "Segmentation fault" >&2; exit "${PIPESTATUS[0]}"'
 
 # It needs no temporary folder, and finds its own through links and with CDPATH set.
 mkdir "$out/elsewhere" "$out/strips.d"
