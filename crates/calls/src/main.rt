@@ -1,6 +1,8 @@
 // The library's calls, one on each line of standard input; the results of each are printed on a line, to be compared with those of another program.
 // A line is a letter and the call's arguments, each behind one space. Numbers are in decimal. Cells are one text, `-` for none: `0`, `1`, and any other byte
 // as `x` and two hexadecimal digits. A reader is its seven fields. A line that is not of this form prints `unclear`.
+#![tactic(auto)]
+
 mod clocked;
 mod fields;
 mod lent;

@@ -1,4 +1,6 @@
 // The worked cases of document 01, run through the calls: a line for each with its number in the document, the number handed back and the results.
+#![tactic(auto)]
+
 use libc::STDOUT_FILENO;
 
 fn wide(cell: u8) -> u64 {

@@ -1,4 +1,6 @@
 // Lent cells and the numbers they stand for: the first cell is the highest power.
+#![tactic(auto)]
+
 ghost use Rattle.std.specs.Prelude.{◌≡◌, ◌≤◌, length};
 ghost use Rattle.poly.specs.Cells.{Cells, poly, cells};
 ghost use Rattle.verdict.specs.Verdict.{Where};

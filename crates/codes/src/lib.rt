@@ -1,4 +1,6 @@
 // The checks of a code and a rule: numbers 1 to 5.
+#![tactic(auto)]
+
 ghost use Rattle.std.specs.Prelude.{◌≡◌, ◌+◌, ◌*◌, ◌≤◌, ◌<◌};
 ghost use Rattle.poly.specs.Poly.{Remainder};
 ghost use Rattle.verdict.specs.Verdict.{Verdict, Tells};

@@ -1,4 +1,6 @@
 // Plain division of lent cells: quotient and remainder, and the remainders of the register's two sides.
+#![tactic(auto)]
+
 ghost use Rattle.std.specs.Prelude.{◌≡◌, length};
 ghost use Rattle.poly.specs.Shifts.{Ready};
 ghost use Rattle.verdict.specs.Verdict.{Verdict};

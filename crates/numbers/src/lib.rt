@@ -1,4 +1,6 @@
 // The calls on a code with words and messages as numbers: bit i is x^i, so the last cell is the lowest.
+#![tactic(auto)]
+
 ghost use Rattle.std.specs.Prelude.{[], ◌∷◌, ◌++◌, ◌^◌, ◌≤◌, ◌<◌};
 ghost use Rattle.poly.specs.Poly.{Degree};
 ghost use Rattle.verdict.specs.Verdict.{Verdict};

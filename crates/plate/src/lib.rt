@@ -1,5 +1,7 @@
 // The calls of the library under names that C and Rust can link. Each does what the call of its name does, with the same promise; numbers pass as
 // themselves, lent cells as a pointer and then a length.
+#![tactic(auto)]
+
 ghost use Rattle.std.specs.Prelude.{◌≡◌};
 ghost use Rattle.verdict.specs.Verdict.{Verdict};
 ghost use Rattle.division.specs.Division.{DividesCells, LeavesLow, LeavesHigh};

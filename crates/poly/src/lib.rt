@@ -1,4 +1,6 @@
 // Polynomial arithmetic on numbers: the degree, one shift of a register whose stages are the digits of a number, division and product.
+#![tactic(auto)]
+
 ghost use Rattle.std.specs.Prelude.{◌≡◌, suc, ◌+◌, ◌*◌, ◌^◌, ◌≤◌, ◌<◌};
 ghost use Rattle.verdict.specs.Verdict.{Tells, Where};
 ghost use Rattle.poly.specs.Poly.{sum, times, Degree, Divided};

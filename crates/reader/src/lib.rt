@@ -1,4 +1,6 @@
 // The clocked reader of a cyclic code (Meggitt).
+#![tactic(auto)]
+
 ghost use Rattle.std.specs.Prelude.{◌≡◌, ◌+◌, ◌-◌, ◌*◌, ◌%◌, ◌≤◌, ◌<◌, length, get_or, take};
 ghost use Rattle.poly.specs.Poly.{sum};
 ghost use Rattle.poly.specs.Cells.{Cells};

@@ -1,4 +1,6 @@
 // The better of two readings of one plate.
+#![tactic(auto)]
+
 ghost use Rattle.std.specs.Prelude.{◌≡◌, []};
 ghost use Rattle.readings.specs.Readings.{Numbered, Picks};
 ghost use Rattle.readings.specs.Within.{Weighs, Chosen};

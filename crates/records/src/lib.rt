@@ -1,4 +1,6 @@
 // Records and their lines.
+#![tactic(auto)]
+
 mod jobs;
 
 ghost use Rattle.std.specs.Prelude.{◌≡◌, ◌+◌, ◌≤◌, ◌<◌, length};

@@ -1,4 +1,6 @@
 // Reads records from standard input to its end, and prints their lines.
+#![tactic(auto)]
+
 ghost use Rattle.std.specs.Prelude.{◌≡◌, ◌%◌, ◌≤◌, length};
 ghost use Rattle.records.specs.Records.{Room};
 

@@ -1,4 +1,6 @@
 // Bytes and numbers in decimal, written into a lent slice at a place.
+#![tactic(auto)]
+
 ghost use Rattle.std.specs.Prelude.{◌+◌, ◌≤◌, ◌≡◌, leb, length};
 ghost use Rattle.text.specs.Text.{decimal, written, Puts};
 ghost use Rattle.text.specs.Lowest.{lowest};

@@ -1,1 +1,2 @@
 // The checks of a call and the number they give: definitions in specs/ and their laws in proofs/, and no code.
+#![tactic(auto)]

@@ -1,4 +1,6 @@
 // The calls on a code with words and messages as lent cells, first cell first.
+#![tactic(auto)]
+
 ghost use Rattle.std.specs.Prelude.{◌≡◌, [], ◌∷◌, ◌++◌, ◌-◌, ◌≤◌, length, drop};
 ghost use Rattle.poly.specs.Cells.{cells};
 ghost use Rattle.cells.specs.Lent.{cells_check};

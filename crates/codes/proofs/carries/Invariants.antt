@@ -1,0 +1,19 @@
+-- No pair passed collides; at the end none does, and a pair that collides refutes carrying.
+use mathlib.Core.Bool.{true}
+use mathlib.Core.Path.{◌≡◌}
+use Prim.Native.Nat.{ℕ, ◌+◌, ◌-◌, ◌*◌, ◌≤◌, ◌<◌}
+use lib.ListN.{get_or}
+use Rattle.codes.proofs.carries.Given as goal
+
+abbrev pub invariant-loop-i : goal.invariant-loop-i
+invariant-loop-i l = (l.carried ≡ true) × (l.i ≤ l.j) × ((x : ℕ) → x < l.i → get_or l.t x 0 ≡ l.a → ⊥)
+
+abbrev pub decreases-loop-i : goal.decreases-loop-i
+decreases-loop-i l = l.j - l.i
+
+abbrev pub invariant-pairs : goal.invariant-pairs
+invariant-pairs l =
+    (l.carried ≡ true) × (l.j ≤ l.m) × (l.m ≤ 2 * l.n + 1) × ((y : ℕ) → y < l.j → (x : ℕ) → x < y → get_or l.t x 0 ≡ get_or l.t y 0 → ⊥)
+
+abbrev pub decreases-pairs : goal.decreases-pairs
+decreases-pairs l = l.m - l.j
