@@ -10,21 +10,21 @@ const NOWHERE: usize = usize::MAX;
 // The most cells of a field that has no fixed count.
 pub(crate) const MOST: usize = 8192;
 
-#[derive(Drop)]
+#[derive(Clone, Copy)]
 pub(crate) struct Number {
     pub value: u64,
     pub end: usize,
 }
 
 // How many cells were read.
-#[derive(Drop)]
+#[derive(Clone, Copy)]
 pub(crate) struct Cells {
     pub count: usize,
     pub end: usize,
 }
 
 // The numbers that a line begins with: n, g, which is a generator or a divisor, and the rule. What the line does not have is 0.
-#[derive(Drop)]
+#[derive(Clone, Copy)]
 pub(crate) struct Head {
     pub n: usize,
     pub g: u64,
@@ -32,7 +32,7 @@ pub(crate) struct Head {
     pub end: usize,
 }
 
-#[derive(Drop)]
+#[derive(Clone, Copy)]
 pub(crate) struct Standing {
     pub reader: Reader,
     pub end: usize,
@@ -85,7 +85,7 @@ pub(crate) fn number_at(line: &[u8], at: usize) -> Number {
 }
 
 // One cell of a field; where there is none, it ends where it begins.
-#[derive(Drop)]
+#[derive(Clone, Copy)]
 struct Cell {
     pub value: u8,
     pub end: usize,

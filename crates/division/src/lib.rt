@@ -8,7 +8,7 @@ ghost use Rattle.division.specs.Division.{Quotient, DividesCells, LeavesLow, Lea
 ghost use Rattle.division.specs.Within.{Stages, checks, Fit, Side, shift_at, Leaves};
 
 #[repr(C)]
-#[derive(Drop)]
+#[derive(Clone, Copy)]
 pub struct Outcome {
     pub number: u64,
     pub remainder: u64,

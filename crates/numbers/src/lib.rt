@@ -14,14 +14,14 @@ ghost use Rattle.codes.proofs.Checking.{Code};
 ghost use Rattle.numbers.specs.Finding.{FirstShift, Finds};
 
 #[repr(C)]
-#[derive(Drop)]
+#[derive(Clone, Copy)]
 pub struct Value {
     pub number: u64,
     pub value: u64,
 }
 
 #[repr(C)]
-#[derive(Drop)]
+#[derive(Clone, Copy)]
 pub struct Decoding {
     pub number: u64,
     pub message: u64,
@@ -120,7 +120,7 @@ fn first_shift(e: u64, g: u64, r: usize, s: u64, m: usize) -> usize
     i
 }
 
-#[derive(Drop)]
+#[derive(Clone, Copy)]
 struct Found {
     pub found: bool,
     pub places: u64,
@@ -175,7 +175,7 @@ fn find(n: usize, g: u64, r: usize, rule: u64, s: u64) -> Found
     }
 }
 
-#[derive(Drop)]
+#[derive(Clone, Copy)]
 struct Mending {
     pub number: u64,
     pub code: u64,

@@ -56,7 +56,7 @@ pub fn low_shift(r: usize, g: u64, s: u64, c: u64) -> u64
     reduced(r, g, s * 2 + c)
 }
 
-#[derive(Drop)]
+#[derive(Clone, Copy)]
 pub struct Parts {
     pub quotient: u64,
     pub remainder: u64,

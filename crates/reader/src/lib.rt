@@ -15,7 +15,7 @@ ghost use Rattle.reader.specs.Within.{Halves, Triggers};
 
 // A reader as it stands. Stage i is for x^i; the cells are stored first cell first.
 #[repr(C)]
-#[derive(Drop)]
+#[derive(Clone, Copy)]
 pub struct Reader {
     pub n: usize,
     pub g: u64,
@@ -28,7 +28,7 @@ pub struct Reader {
 
 // What a start hands back: a number, and the reader.
 #[repr(C)]
-#[derive(Drop)]
+#[derive(Clone, Copy)]
 pub struct Started {
     pub number: u64,
     pub reader: Reader,
@@ -36,7 +36,7 @@ pub struct Started {
 
 // What a clock hands back: a number, the cell given out, and the next reader.
 #[repr(C)]
-#[derive(Drop)]
+#[derive(Clone, Copy)]
 pub struct Clocked {
     pub number: u64,
     pub cell: u8,
@@ -45,7 +45,7 @@ pub struct Clocked {
 
 // What an answer hands back beside the lent message: a number, and the count of mended cells.
 #[repr(C)]
-#[derive(Drop)]
+#[derive(Clone, Copy)]
 pub struct Answer {
     pub number: u64,
     pub mended: u64,

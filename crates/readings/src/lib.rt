@@ -6,7 +6,7 @@ ghost use Rattle.readings.specs.Readings.{Numbered, Picks};
 ghost use Rattle.readings.specs.Within.{Weighs, Chosen};
 
 // The number of two readings, and which word is taken: 1 or 2, or 0 for none.
-#[derive(Drop)]
+#[derive(Clone, Copy)]
 struct Choice {
     pub number: u64,
     pub word: u64,

@@ -10,7 +10,7 @@ ghost use Rattle.tables.specs.Tables.{Packed, Parts, Places, Family, highest as 
 ghost use Rattle.records.specs.Records.{E, P, S, D, Q, Gives};
 ghost use Rattle.records.specs.Steps.{Answered, fields};
 
-#[derive(Drop)]
+#[derive(Clone, Copy)]
 pub(crate) struct Outcome {
     pub number: u64,
     pub count: u64,

@@ -11,14 +11,14 @@ ghost use Rattle.codes.proofs.Checking.{Code};
 ghost use Rattle.words.specs.Within.{lengths_check, word_of, message_of};
 
 #[repr(C)]
-#[derive(Drop)]
+#[derive(Clone, Copy)]
 pub struct Outcome {
     pub number: u64,
     pub remainder: u64,
 }
 
 #[repr(C)]
-#[derive(Drop)]
+#[derive(Clone, Copy)]
 pub struct Answer {
     pub number: u64,
     pub mended: u64,

@@ -16,8 +16,7 @@ remainders-t-requires c = (c.requires, omega (arith, count_le c.args.n c.args.ru
 
 pub pairs-init : goal.pairs-init
 pairs-init c =
-    let s = c.before.before in
-    (refl, omega arith, omega (arith, count_le s.args.n s.args.rule, c.pattern_count-m.ensures), below_none _)
+    (refl, omega arith, omega (arith, count_le c.args.n c.args.rule, c.pattern_count-m.ensures), below_none _)
 
 pub loop-i-init : goal.loop-i-init
 loop-i-init c = (c.pairs.invariant.0, search rules, below_none _)
@@ -34,19 +33,13 @@ pairs-preserved c =
 pub returns-after-pairs : goal.returns-after-pairs
 returns-after-pairs c =
     let p = c.pairs in
-    let f = c.before.before in
-    let s = f.before.before in
     rw p.invariant.0
     (tells_yes
-    (row_carries s.args.rule s.requires.least f.remainders-t.result f.pattern_count-m.result f.pattern_count-m.ensures
-    f.remainders-t.ensures.at (λ y h. p.invariant.3 y (lt_of_lt_of_le h c.pairs-test.false))))
+    (row_carries c.args.rule c.requires.least c.remainders-t.result c.pattern_count-m.result c.pattern_count-m.ensures
+    c.remainders-t.ensures.at (λ y h. p.invariant.3 y (lt_of_lt_of_le h c.pairs-test.false))))
 
 pub returns-then-t-i : goal.returns-then-t-i
 returns-then-t-i c =
-    let l = c.before.before in
-    let p = l.before.before in
-    let f = p.before in
-    let s = f.before.before in
     tells_no
-    (row_collides s.args.rule s.requires.least f.remainders-t.result f.pattern_count-m.result f.pattern_count-m.ensures
-    f.remainders-t.ensures.at l.loop-i.i p.pairs.j (omega arith) (omega arith) c.if-t-i.true)
+    (row_collides c.args.rule c.requires.least c.remainders-t.result c.pattern_count-m.result c.pattern_count-m.ensures
+    c.remainders-t.ensures.at c.loop-i.i c.pairs.j (omega arith) (omega arith) c.if-t-i.true)

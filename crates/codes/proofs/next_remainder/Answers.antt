@@ -8,31 +8,26 @@ use Rattle.codes.proofs.next_remainder.Goals as goal
 
 pub returns-then-k-eq0 : goal.returns-then-k-eq0
 returns-then-k-eq0 c =
-    let s = c.before.before in
-    rw c.if-k-eq0.true (first_remainder s.args.n s.requires.0.degree)
+    rw c.if-k-eq0.true (first_remainder c.args.n c.requires.0.degree)
 
 pub returns-then-k-eq1 : goal.returns-then-k-eq1
 returns-then-k-eq1 c =
-    let s = c.before.before.before in
-    rw c.if-k-eq1.true (one_remainder s.args.n s.requires.0.degree (omega arith) s.requires.0.one)
+    rw c.if-k-eq1.true (one_remainder c.args.n c.requires.0.degree (omega arith) c.requires.0.one)
 
 pub returns-then-k-n : goal.returns-then-k-n
 returns-then-k-n c =
-    let s = c.before.before.before.before.before.before in
-    let l = s.requires.2.at (s.args.k - 1) (omega arith) in
-    let d = s.requires.0.degree in
-    single_remainder s.args.n d s.args.k (omega arith) (omega arith) l (c.low_shift.ensures.holds (zero_ready d s.requires.0.few l))
+    let l = c.requires.2.at (c.args.k - 1) (omega arith) in
+    let d = c.requires.0.degree in
+    single_remainder c.args.n d c.args.k (omega arith) (omega arith) l (c.low_shift.ensures.holds (zero_ready d c.requires.0.few l))
 
 pub returns-then-k-n-2 : goal.returns-then-k-n-2
 returns-then-k-n-2 c =
-    let s = c.before.before.before.before.before.before.before in
-    let k = s.args.k in
-    let n = s.args.n in
-    pair_remainder n s.requires.0.degree k (omega arith) (omega arith) (s.requires.2.at (k - n + 1) (omega arith)) (s.requires.2.at (k - n) (omega arith))
+    let k = c.args.k in
+    let n = c.args.n in
+    pair_remainder n c.requires.0.degree k (omega arith) (omega arith) (c.requires.2.at (k - n + 1) (omega arith)) (c.requires.2.at (k - n) (omega arith))
 
 pub returns : goal.returns
 returns c =
-    let s = c.before.before.before.before.before.before.before in
-    let n = s.args.n in
-    let last : s.args.k ≡ 2 * n = omega arith in
-    rw last (ends_remainder n s.requires.0.degree (omega arith) (s.requires.2.at n (omega arith)) (s.requires.2.at 1 (omega arith)))
+    let n = c.args.n in
+    let last : c.args.k ≡ 2 * n = omega arith in
+    rw last (ends_remainder n c.requires.0.degree (omega arith) (c.requires.2.at n (omega arith)) (c.requires.2.at 1 (omega arith)))

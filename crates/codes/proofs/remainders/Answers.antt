@@ -13,8 +13,7 @@ loop-k-init c = (omega arith, record { long = refl; at = λ i l. absurd (not-suc
 pub loop-k-preserved : goal.loop-k-preserved
 loop-k-preserved c =
     let l = c.loop-k in
-    let s = c.before.before.before.before in
-    (omega arith, record { long = rw length-set l.invariant.1.long; at = set_more (λ i v. Remainder (pattern_at s.args.n i) s.args.g v) l.t l.k c.next_remainder.result (omega (arith, l.invariant.1.long)) l.invariant.1.at c.next_remainder.ensures })
+    (omega arith, record { long = rw length-set l.invariant.1.long; at = set_more (λ i v. Remainder (pattern_at c.args.n i) c.args.g v) l.t l.k c.next_remainder.result (omega (arith, l.invariant.1.long)) l.invariant.1.at c.next_remainder.ensures })
 
 pub returns : goal.returns
 returns c =

@@ -5,16 +5,14 @@ use Rattle.division.proofs.remainder_at.Goals as goal
 
 pub returns-then-m-ne0 : goal.returns-then-m-ne0
 returns-then-m-ne0 c =
-    let before = c.before.before in
-    let w = before.args.dividend.now in
+    let w = c.args.dividend.now in
     let x = c.refused.ensures in
-    rw x.0 (settles_no _ tt c.if-m-ne0.true (checks_unlent w _ _ before.first_number-m.ensures) x.1)
+    rw x.0 (settles_no _ tt c.if-m-ne0.true (checks_unlent w _ _ c.first_number-m.ensures) x.1)
 
 pub run-requires : goal.run-requires
 run-requires c = (checks_fit _ _ _ _ c.first_number-m.ensures c.if-m-ne0.false c.stages_of.ensures).0
 
 pub returns : goal.returns
 returns c =
-    let before = c.before.before.before in
-    let w = before.args.dividend.now in
-    settles_passed _ tt (checks_unlent w _ _ before.first_number-m.ensures) c.if-m-ne0.false c.run.ensures
+    let w = c.args.dividend.now in
+    settles_passed _ tt (checks_unlent w _ _ c.first_number-m.ensures) c.if-m-ne0.false c.run.ensures

@@ -14,15 +14,13 @@ overflow_cast-dividend c = omega (arith, c.requires.cells c.loop-i.i)
 
 pub shift-s-requires : goal.shift-s-requires
 shift-s-requires c =
-    let start = c.before.before.before.before in
     let l = c.loop-i in
-    fit_ready start.requires l.i (side_lower start.args.high (take l.i start.args.dividend.now) l.s l.invariant.1)
+    fit_ready c.requires l.i (side_lower c.args.high (take l.i c.args.dividend.now) l.s l.invariant.1)
 
 pub loop-i-preserved : goal.loop-i-preserved
 loop-i-preserved c =
-    let start = c.before.before.before.before.before in
     let l = c.loop-i in
-    (search rules, rw (add-one, c.shift-s.ensures) (side_next start.requires l.i (omega arith) start.args.high l.s l.invariant.1))
+    (search rules, rw (add-one, c.shift-s.ensures) (side_next c.requires l.i (omega arith) c.args.high l.s l.invariant.1))
 
 pub returns : goal.returns
 returns c = rw (take_all c.loop-i.i _ c.loop-i-test.false) at c.loop-i.invariant.1

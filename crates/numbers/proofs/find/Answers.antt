@@ -14,8 +14,7 @@ returns-then-s-eq0 c = rw c.if-s-eq0.true (finds_yes none (remainder_zero (gener
 
 pub returns-then-rule-eq0 : goal.returns-then-rule-eq0
 returns-then-rule-eq0 c =
-    let s = c.before.before in
-    finds_no (no_pattern s.requires.0 s.args.rule c.if-s-eq0.false (λ b. let f : ⊥ = omega arith in absurd f) (λ b. let f : ⊥ = omega arith in absurd f))
+    finds_no (no_pattern c.requires.0 c.args.rule c.if-s-eq0.false (λ b. let f : ⊥ = omega arith in absurd f) (λ b. let f : ⊥ = omega arith in absurd f))
 
 pub first_shift-single-requires : goal.first_shift-single-requires
 first_shift-single-requires c = let p = c.requires.1 in (p.most, p.few, p.degree)
@@ -25,15 +24,13 @@ overflow_shl-result c = omega (arith, c.requires.1.most)
 
 pub returns-then-single-n : goal.returns-then-single-n
 returns-then-single-n c =
-    let s = c.before.before.before.before in
     let i = c.first_shift-single.result in
-    rw (one_shl i (omega (arith, s.requires.1.most))) (finds_yes (single i c.if-single-n.true (omega arith)) (rw one-mul at (c.first_shift-single.ensures.at c.if-single-n.true)))
+    rw (one_shl i (omega (arith, c.requires.1.most))) (finds_yes (single i c.if-single-n.true (omega arith)) (rw one-mul at (c.first_shift-single.ensures.at c.if-single-n.true)))
 
 pub returns-then-rule-eq1 : goal.returns-then-rule-eq1
 returns-then-rule-eq1 c =
-    let s = c.before.before.before.before.before in
     finds_no
-    (no_pattern s.requires.0 s.args.rule c.if-s-eq0.false (λ b. first_none c.first_shift-single.ensures c.if-single-n.false)
+    (no_pattern c.requires.0 c.args.rule c.if-s-eq0.false (λ b. first_none c.first_shift-single.ensures c.if-single-n.false)
     (λ b. let f : ⊥ = omega arith in absurd f))
 
 pub first_shift-pair-requires : goal.first_shift-pair-requires
@@ -47,9 +44,8 @@ overflow_shl-result-then-pair-n c = omega (arith, c.requires.1.most)
 
 pub returns-then-pair-n : goal.returns-then-pair-n
 returns-then-pair-n c =
-    let s = c.before.before.before.before.before.before.before in
     let i = c.first_shift-pair.result in
-    rw (three_shl i (omega (arith, s.requires.1.most)))
+    rw (three_shl i (omega (arith, c.requires.1.most)))
     (finds_yes (pair i (omega arith) (omega arith)) (rw (three_shift i) at (c.first_shift-pair.ensures.at (omega arith))))
 
 pub overflow_sub-result : goal.overflow_sub-result
@@ -60,17 +56,13 @@ overflow_shl-result-then-pair-n-2 c = omega (arith, c.requires.1.most)
 
 pub returns-then-pair-n-2 : goal.returns-then-pair-n-2
 returns-then-pair-n-2 c =
-    let s = c.before.before.before.before.before.before.before.before in
-    let n = s.args.n in
+    let n = c.args.n in
     let last : c.first_shift-pair.result ≡ n - 1 = omega arith in
-    rw (one_shl (n - 1) (omega (arith, s.requires.1.most)))
-    (finds_yes (ends (omega arith)) (ends_round s.requires.0 (rw last at (c.first_shift-pair.ensures.at c.if-pair-n-2.true))))
+    rw (one_shl (n - 1) (omega (arith, c.requires.1.most)))
+    (finds_yes (ends (omega arith)) (ends_round c.requires.0 (rw last at (c.first_shift-pair.ensures.at c.if-pair-n-2.true))))
 
 pub returns : goal.returns
 returns c =
-    let three = c.before.before in
-    let one = three.before.before.before in
-    let s = one.before.before.before in
     finds_no
-    (no_pattern s.requires.0 s.args.rule one.if-s-eq0.false
-    (λ b. first_none one.first_shift-single.ensures three.if-single-n.false) (λ b. first_none three.first_shift-pair.ensures c.if-pair-n-2.false))
+    (no_pattern c.requires.0 c.args.rule c.if-s-eq0.false
+    (λ b. first_none c.first_shift-single.ensures c.if-single-n.false) (λ b. first_none c.first_shift-pair.ensures c.if-pair-n-2.false))

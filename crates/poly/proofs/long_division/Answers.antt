@@ -32,8 +32,7 @@ ready : (c : In-loop-i)
     → Ready c.args.r c.args.g c.loop-i.s (coefficient c.args.p (c.loop-i.i - 1))
 ready c =
     let l = c.loop-i in
-    let b = c.before.before in
-    digit_ready b.args.p l.i b.requires.1 b.requires.0 (omega arith) l.invariant.2
+    digit_ready c.args.p l.i c.requires.1 c.requires.0 (omega arith) l.invariant.2
 
 pub overflow_mul-t : goal.overflow_mul-t
 overflow_mul-t c = omega (arith, ready_small (ready c))
@@ -50,24 +49,22 @@ overflow_mul-q c = omega (arith, pow_mono {i = 64 - c.loop-i.i} {j = 63} (omega 
 pub overflow_add-q : goal.overflow_add-q
 overflow_add-q c =
     let l = c.loop-i in
-    let b = c.before.before in
-    omega (arith, pow_mono {i = 64 - (l.i - 1)} {j = 64} (omega arith), quotient_fits b.args.p l.i b.requires.1 b.requires.0 (omega arith) l.invariant.2 l.invariant.0 l.invariant.1)
+    omega (arith, pow_mono {i = 64 - (l.i - 1)} {j = 64} (omega arith), quotient_fits c.args.p l.i c.requires.1 c.requires.0 (omega arith) l.invariant.2 l.invariant.0 l.invariant.1)
 
 pub overflow_mul-s : goal.overflow_mul-s
 overflow_mul-s c =
-    let b = c.before.before in
-    let g = b.args.g in
-    let fits = on_digit (λ (f : ℕ). f * g < 2 ^ 64) (omega (arith, zero-mul g)) (omega (arith, one-mul g, b.ranges.g.fits)) _ (top_digit b.args.r _ (low_fits (ready c))) in
+    let g = c.args.g in
+    let fits = on_digit (λ (f : ℕ). f * g < 2 ^ 64) (omega (arith, zero-mul g)) (omega (arith, one-mul g, c.ranges.g.fits)) _ (top_digit c.args.r _ (low_fits (ready c))) in
     omega (arith, fits)
 
 pub loop-i-preserved : goal.loop-i-preserved
 unfolding reduce
 loop-i-preserved c =
     let l = c.loop-i in
-    let b = c.before.before in (
+    (
       omega arith,
-      quotient_fits b.args.p l.i b.requires.1 b.requires.0 (omega arith) l.invariant.2 l.invariant.0 l.invariant.1,
-      digit_divided b.args.p l.i b.requires.1 b.requires.0 (omega arith) l.invariant.2,
+      quotient_fits c.args.p l.i c.requires.1 c.requires.0 (omega arith) l.invariant.2 l.invariant.0 l.invariant.1,
+      digit_divided c.args.p l.i c.requires.1 c.requires.0 (omega arith) l.invariant.2,
     )
 
 pub returns : goal.returns

@@ -12,9 +12,8 @@ loop-i-init c = let a = c.args in (omega arith, sym (product_none a.p a.q a.d a.
 pub digit_times-t-requires : goal.digit_times-t-requires
 digit_times-t-requires c =
     let l = c.loop-i in
-    let s = c.before.before in
-    let a = s.args in
-    (rw l.invariant.1 (product_lt a.p a.q a.d a.e s.requires.0 s.requires.1 l.i s.requires.2 (omega arith) l.invariant.0), coefficient_lt a.p (l.i - 1))
+    let a = c.args in
+    (rw l.invariant.1 (product_lt a.p a.q a.d a.e c.requires.0 c.requires.1 l.i c.requires.2 (omega arith) l.invariant.0), coefficient_lt a.p (l.i - 1))
 
 pub loop-i-preserved : goal.loop-i-preserved
 loop-i-preserved c =

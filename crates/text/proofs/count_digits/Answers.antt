@@ -9,7 +9,7 @@ pub loop-v-init : goal.loop-v-init
 loop-v-init c = omega arith
 
 pub overflow_add-digits : goal.overflow_add-digits
-overflow_add-digits c = let s = c.before.before in omega (arith, c.loop-v.invariant, decimal_most_64 s.args.value s.ranges.value.fits)
+overflow_add-digits c = omega (arith, c.loop-v.invariant, decimal_most_64 c.args.value c.ranges.value.fits)
 
 pub loop-v-preserved : goal.loop-v-preserved
 loop-v-preserved c = omega (arith, c.loop-v.invariant, decimal_longer 4 c.loop-v.v c.loop-v-test.true)
@@ -18,7 +18,7 @@ pub loop-v-2-init : goal.loop-v-2-init
 loop-v-2-init c = c.loop-v.invariant
 
 pub overflow_add-digits-in-loop-v-2 : goal.overflow_add-digits-in-loop-v-2
-overflow_add-digits-in-loop-v-2 c = let s = c.before.before.before.before in omega (arith, c.loop-v-2.invariant, decimal_most_64 s.args.value s.ranges.value.fits)
+overflow_add-digits-in-loop-v-2 c = omega (arith, c.loop-v-2.invariant, decimal_most_64 c.args.value c.ranges.value.fits)
 
 pub loop-v-2-preserved : goal.loop-v-2-preserved
 loop-v-2-preserved c = omega (arith, c.loop-v-2.invariant, decimal_longer 1 c.loop-v-2.v c.loop-v-2-test.true)

@@ -30,14 +30,12 @@ overflow_sub-i c = let l = c.loop-v in omega (arith, decimal_longer 4 l.v c.loop
 
 pub put_four-requires : goal.put_four-requires
 put_four-requires c =
-    let t = c.before in
-    let l = t.loop-v in
-    omega (arith, l.invariant.within, l.invariant.room, l.invariant.long, decimal_longer 4 l.v t.loop-v-test.true, l.invariant.left)
+    let l = c.loop-v in
+    omega (arith, l.invariant.within, l.invariant.room, l.invariant.long, decimal_longer 4 l.v c.loop-v-test.true, l.invariant.left)
 
 pub loop-v-preserved : goal.loop-v-preserved
 loop-v-preserved c =
-    let t = c.before.before.before.before in
-    rw c.put_four.ensures (filling_more t.loop-v.invariant 4 t.loop-v-test.true)
+    rw c.put_four.ensures (filling_more c.loop-v.invariant 4 c.loop-v-test.true)
 
 pub loop-v-2-init : goal.loop-v-2-init
 loop-v-2-init c = let l = c.loop-v.invariant in filling_start c.loop-v.out l.left (omega arith)

@@ -1,0 +1,11 @@
+-- The cells passed are copied.
+use mathlib.Core.Path.{◌≡◌}
+use Prim.Native.Nat.{◌-◌, ◌≤◌}
+use lib.ListN.{length, take}
+use Rattle.reader.proofs.copy_first.Given as goal
+
+abbrev pub invariant-loop-i : goal.invariant-loop-i
+invariant-loop-i l = (l.i ≤ length l.message) × (length l.message ≡ length l.initial.message) × (take l.i l.message ≡ take l.i l.cells)
+
+abbrev pub decreases-loop-i : goal.decreases-loop-i
+decreases-loop-i l = length l.initial.message - l.i
