@@ -5,26 +5,20 @@ use Rattle.reader.proofs.Filling.{held_none, held_next, held_fits}
 use borrow.Author.Rules.{rules}
 use native.Mathlib.Omega.{arith}
 use Rattle.reader.proofs.held_in.Goals as goal
-use Rattle.reader.proofs.held_in.Goals.{In-loop-i}
 
 pub loop-i-init : goal.loop-i-init
-loop-i-init c = (search rules, held_none c.args.t1 32 (search rules))
-
--- 32 stages hold no more than 32 digits
-small : (c : In-loop-i) → c.loop-i.p < 2 ^ 32
-small c =
-    rw c.loop-i.invariant.1 (held_fits c.args.t1 c.loop-i.i c.requires (search rules))
+loop-i-init c = (search rules, held_none c.args.stages 32 (search rules))
 
 pub overflow_mul-p : goal.overflow_mul-p
-overflow_mul-p c = omega (arith, small c)
+overflow_mul-p c = omega (arith, c.loop-i.invariant.1, held_fits c.args.stages c.loop-i.i c.requires (search rules))
 
 pub overflow_add-p : goal.overflow_add-p
-overflow_add-p c = omega (arith, small c, c.requires (c.loop-i.i - 1))
+overflow_add-p c = omega (arith, c.loop-i.invariant.1, held_fits c.args.stages c.loop-i.i c.requires (search rules), c.requires (c.loop-i.i - 1))
 
 pub loop-i-preserved : goal.loop-i-preserved
 loop-i-preserved c =
     let l = c.loop-i in
-    let s = c.args.t1 in
+    let s = c.args.stages in
     (search rules, ap (λ (x : ℕ). x * 2 + get_or s (l.i - 1) 0) l.invariant.1 ∙ held_next s l.i (omega arith) (search rules))
 
 pub returns : goal.returns

@@ -9,7 +9,7 @@ use Rattle.reader.proofs.look.Goals as goal
 pub returns-then-not-triggers : goal.returns-then-not-triggers
 returns-then-not-triggers c =
     let s = c.before.before in
-    inr ((c.triggers.ensures s.args.i s.requires.1).no (not-true _ c.if-not-triggers.true-raw), refl)
+    inr ((c.triggers.ensures s.args.i s.requires.1).no c.if-not-triggers.true, refl)
 
 pub halved-requires : goal.halved-requires
 halved-requires c = (form_code c.requires.0).generator.odd

@@ -1,10 +1,10 @@
-use mathlib.Core.Logic.{⊎_elim}
 use borrow.Author.Count.{below_none, below_more}
 use Rattle.verdict.proofs.Verdict.{tells_yes, tells_no}
 use Rattle.reader.proofs.Rows.{row_in}
 use borrow.Author.Rules.{rules}
 use native.Mathlib.Omega.{arith}
 use Rattle.reader.proofs.row_fits.Goals as goal
+use Rattle.reader.proofs.row_fits.Goals.{then-k-i+else-c-ne0, else-k-i}
 
 pub loop-i-init : goal.loop-i-init
 loop-i-init c = (search rules, below_none _)
@@ -19,7 +19,7 @@ pub loop-i-preserved : goal.loop-i-preserved
 loop-i-preserved c = (
   search rules,
   below_more _ _ c.loop-i.invariant.1
-      (omega arith, λ h. ⊎_elim (λ w. w.1.left) (λ w. let b : ⊥ = omega arith in absurd b) c.if-k-i.branch),
+      (omega arith, λ h. elim c.if-k-i.branch [ then-k-i+else-c-ne0 w ↦ w.if-c-ne0.false | else-k-i w ↦ absurd (let b : ⊥ = omega arith in b) ]),
 )
 
 pub returns : goal.returns

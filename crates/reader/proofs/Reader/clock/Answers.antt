@@ -1,7 +1,6 @@
 -- The checks 11 and 7 in their order, and then a load or a look.
 use mathlib.Core.Logic.{inl, inr}
 use mathlib.Core.Path.{refl}
-use borrow.Author.Tests.{not-true, not-false}
 use Rattle.reader.specs.Reader.{InForm}
 use Rattle.reader.proofs.Form.{form_code, clock_refused}
 use native.Mathlib.Omega.{arith}
@@ -11,11 +10,11 @@ use Rattle.reader.proofs.Reader.clock.Goals.{Else-not-in_form}
 pub returns-then-not-in_form : goal.returns-then-not-in_form
 returns-then-not-in_form c =
     let k = c.before.before in
-    clock_refused _ _ (inl (λ p. k.in_form.ensures.no (not-true _ c.if-not-in_form.true-raw) p.0, refl)) c.refused.ensures
+    clock_refused _ _ (inl (λ p. k.in_form.ensures.no c.if-not-in_form.true p.0, refl)) c.refused.ensures
 
 -- the reader is in form
 form : (c : Else-not-in_form) → InForm c.args.self
-form c = c.in_form.ensures.yes (not-false _ c.if-not-in_form.false-raw)
+form c = c.in_form.ensures.yes c.if-not-in_form.false
 
 pub overflow_mul-n : goal.overflow_mul-n
 overflow_mul-n c = omega (arith, (form_code (form c)).most)
