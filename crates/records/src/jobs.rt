@@ -6,7 +6,7 @@ ghost use Rattle.verdict.specs.Verdict.{Tells};
 ghost use Rattle.codes.specs.Row.{pattern_at};
 ghost use Rattle.codes.specs.Finding.{FindsCode};
 ghost use Rattle.families.specs.Families.{lengths, generators};
-ghost use Rattle.tables.specs.Tables.{Packed, Parts, Places, Family, highest as highestOf};
+ghost use Rattle.tables.specs.Tables.{Packed, Parts, Places, Family, highest as highest_of};
 ghost use Rattle.records.specs.Records.{E, P, S, D, Q, Gives};
 ghost use Rattle.records.specs.Steps.{Answered, fields};
 
@@ -162,7 +162,7 @@ fn remainder(parts: &[u64; 3072], f: usize, n: usize, r: usize, rule: u64, w: u6
 // The highest rule that a family carries.
 fn highest(f: usize) -> u64
     requires { f < 12 }
-    ensures { result ≡ highestOf f }
+    ensures { result ≡ highest_of f }
 {
     let family = families::family_of((f + 1) as u64);
     if family.pairs {

@@ -2,7 +2,6 @@
 use mathlib.Core.Path.{◌≡◌}
 use Prim.Native.Nat.{◌-◌, ◌^◌, ◌<◌}
 use native.Mathlib.Omega.{arith}
-use borrow.Author.Rules.{rules}
 use borrow.Author.Tests.{not-true, not-false}
 use Rattle.poly.proofs.Degree.{degree_unique}
 use Rattle.families.proofs.Families.{family_pos, family_small}
@@ -10,32 +9,29 @@ use Rattle.tables.proofs.Entering.{family_cells, family_bounds}
 use Rattle.records.specs.Records.{P}
 use Rattle.codes.proofs.Calls.{message_below}
 use Rattle.records.proofs.Answering.{nine, message_room, answers_product, checked}
-use Rattle.records.proofs.jobs.times.Statement.{statement}
-use Rattle.records.proofs.jobs.times.Tie as tie
+use Rattle.records.proofs.jobs.times.Goals as goal
+use Rattle.records.proofs.jobs.times.Goals.{Else-not-allowed}
 
-sub-allowed : tie.Need-overflow-sub-allowed
-sub-allowed c = omega (arith, (family_bounds c.requires.0).2)
+pub overflow_sub-n : goal.overflow_sub-n
+overflow_sub-n c = omega (arith, (family_bounds c.requires.0).2)
 
-allowed-requires : tie.Need-allowed-requires
-allowed-requires c κs = omega (arith, (family_cells c.requires.0).1)
+pub allowed-requires : goal.allowed-requires
+allowed-requires c = omega (arith, (family_cells c.requires.0).1)
 
-refused-requires : tie.Need-refused-requires
-refused-requires c κs = search rules
-
-returns : tie.Need-returns
-returns c =
+pub returns-then-not-allowed : goal.returns-then-not-allowed
+returns-then-not-allowed c =
     let t = c.before in
     let s = t.before.before in
-    let no = t.before.allowed.ensures.no (not-true _ t.if1.true) in
+    let no = t.allowed.ensures.no (not-true _ t.if-not-allowed.true-raw) in
     rw (c.refused.ensures.0, c.refused.ensures.1, c.refused.ensures.2, s.requires.1)
     (nine P λ o m. no (o, message_below (checked s.requires.0) s.requires.0.degree m))
 
 -- the message fits
-fine : (c : tie.Else1) → (c.before.before.args.rule ≡ 0) × (c.before.before.args.d < 2 ^ (c.before.before.args.n - c.before.before.args.r))
-fine c = c.before.allowed.ensures.yes (not-false _ c.if1.false)
+fine : (c : Else-not-allowed) → (c.args.rule ≡ 0) × (c.args.d < 2 ^ (c.args.n - c.args.r))
+fine c = c.allowed.ensures.yes (not-false _ c.if-not-allowed.false-raw)
 
-product-requires : tie.Need-product-requires
-product-requires c κs =
+pub product-requires : goal.product-requires
+product-requires c =
     let s = c.before.before in
     let h = s.requires.0 in
     rw s.requires.1 (
@@ -44,15 +40,10 @@ product-requires c κs =
       λ r k. rw (degree_unique k h.degree) (message_room (checked h) h.degree s.args.d (fine c).1),
     )
 
-returns-2 : tie.Need-returns-2
-returns-2 c =
+pub returns : goal.returns
+returns c =
     let s = c.before.before.before in
     let h = s.requires.0 in
     let t = fine c.before in
     let e = c.product.ensures in
     rw s.requires.1 (answers_product (checked h) h.degree s.args.rule s.args.d t.0 t.1 (rw s.requires.1 at e))
-
-pub times-spec : {M : Type 1} → statement M
-times-spec =
-    tie.close
-    (tie.spec sub-allowed allowed-requires refused-requires returns product-requires returns-2)
