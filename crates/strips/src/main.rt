@@ -4,7 +4,7 @@
 ghost use Rattle.std.specs.Prelude.{◌≡◌, ◌%◌, ◌≤◌, length};
 ghost use Rattle.records.specs.Records.{Room};
 
-use libc::{STDERR_FILENO, STDIN_FILENO, STDOUT_FILENO};
+use std::io::Read;
 
 // How many bytes of a block were read, and whether a read failed.
 #[derive(Clone, Copy)]
@@ -14,26 +14,26 @@ struct Filled {
 }
 
 // Reads until the block is full, the input ends or a read fails. Records may be split across reads.
-fn fill(block: &mut [u8]) -> Filled
+fn fill(input: &mut impl Read, block: &mut [u8]) -> Filled
     ensures { result.count ≤ length block.old }
 {
     let mut n: usize = 0;
     while n < block.len() {
-        let got = libc::read(STDIN_FILENO, &mut block[n..]);
-        if got < 0 {
-            return Filled {
-                count: n,
-                failed: true,
-            };
+        match input.read(&mut block[n..]) {
+            Ok(0) => {
+                return Filled {
+                    count: n,
+                    failed: false,
+                };
+            }
+            Ok(more) => n += more,
+            Err(_) => {
+                return Filled {
+                    count: n,
+                    failed: true,
+                };
+            }
         }
-        let more = io::count(got, &block[n..]);
-        if more == 0 {
-            return Filled {
-                count: n,
-                failed: false,
-            };
-        }
-        n += more;
     }
     Filled {
         count: n,
@@ -42,33 +42,35 @@ fn fill(block: &mut [u8]) -> Filled
 }
 
 // Writes the lines of the records; whether that was done. If not, says so on standard error.
-fn print(records: &[u8], out: &mut [u8]) -> bool
+fn print(rt: &(impl Print + Eprint), records: &[u8], out: &mut [u8]) -> bool
     requires { Room records.now out.old }
 {
     let end = records::lines(records, out);
-    if io::write_all(STDOUT_FILENO, &out[..end]) {
+    if rt.write_all(&out[..end]).is_ok() {
         return true;
     }
-    io::write_all(
-        STDERR_FILENO,
-        b"strips: standard output cannot be written\n",
-    );
+    let _ = rt.eprintln("strips: standard output cannot be written");
     false
 }
 
 // One block of whole records; whether to go on. What is left over before a read that fails is no remainder of the input.
-fn one_block(block: &mut [u8], out: &mut [u8]) -> bool
+fn one_block(
+    rt: &(impl Print + Eprint),
+    input: &mut impl Read,
+    block: &mut [u8],
+    out: &mut [u8],
+) -> bool
     requires { Room block.old out.old × (length block.old % 16 ≡ 0) }
 {
-    let filled = fill(block);
+    let filled = fill(input, block);
     let n = filled.count;
     if filled.failed {
         let whole = n - n % 16;
-        print(&block[..whole], out);
-        io::write_all(STDERR_FILENO, b"strips: standard input cannot be read\n");
+        print(rt, &block[..whole], out);
+        let _ = rt.eprintln("strips: standard input cannot be read");
         return false;
     }
-    if !print(&block[..n], out) {
+    if !print(rt, &block[..n], out) {
         return false;
     }
     n == block.len()
@@ -88,16 +90,14 @@ fn lines() -> [u8; 1048640]
 }
 
 // Block after block. The loop ends with the input; that it ends at all is proved by a count of blocks, far above any input there is.
-fn main() {
+fn main(rt: HostRuntime) {
+    let mut input = rt.stdin();
     let mut block = block();
     let mut out = lines();
     let mut left = u64::MAX;
-    while one_block(&mut block, &mut out) {
+    while one_block(&rt, &mut input, &mut block, &mut out) {
         if left == 0 {
-            io::write_all(
-                STDERR_FILENO,
-                b"strips: there is more input than it can count\n",
-            );
+            let _ = rt.eprintln("strips: there is more input than it can count");
             return;
         }
         left -= 1;
