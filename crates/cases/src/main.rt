@@ -1,7 +1,7 @@
 // The worked cases of document 01, run through the calls: a line for each with its number in the document, the number handed back and the results.
 #![tactic(auto)]
 
-use libc::STDOUT_FILENO;
+use std::io;
 
 fn wide(cell: u8) -> u64 {
     cell as u64
@@ -33,44 +33,66 @@ fn put_line(line: &mut [u8], case: u64, number: u64, value: u64, cells: &[u8]) -
     text::put_bytes(line, d, b"\n")
 }
 
-fn write_front(line: &[u8], end: usize) {
+fn write_front(rt: &impl Print, line: &[u8], end: usize) -> io::Result<()> {
     if end <= line.len() {
-        io::write_all(STDOUT_FILENO, &line[..end]);
+        return rt.write_all(&line[..end]);
     }
+    Ok(())
 }
 
-fn show(case: u64, number: u64, value: u64, cells: &[u8]) {
+fn show(rt: &impl Print, case: u64, number: u64, value: u64, cells: &[u8]) -> io::Result<()> {
     let mut line = [0u8; 128];
     let end = put_line(&mut line, case, number, value, cells);
-    write_front(&line, end);
+    write_front(rt, &line, end)
 }
 
 // Case, number, remainder, quotient.
-fn division_case(case: u64, dividend: &[u8], divisor: u64, quotient: &mut [u8]) {
+fn division_case(
+    rt: &impl Print,
+    case: u64,
+    dividend: &[u8],
+    divisor: u64,
+    quotient: &mut [u8],
+) -> io::Result<()> {
     let x = division::divide(dividend, divisor, quotient);
-    show(case, x.number, x.remainder, quotient);
+    show(rt, case, x.number, x.remainder, quotient)
 }
 
 // Case, number, 0, word.
-fn systematic_case(case: u64, n: usize, g: u64, message: &[u8], word: &mut [u8]) {
+fn systematic_case(
+    rt: &impl Print,
+    case: u64,
+    n: usize,
+    g: u64,
+    message: &[u8],
+    word: &mut [u8],
+) -> io::Result<()> {
     let number = words::encode_systematic(n, g, message, word);
-    show(case, number, 0, word);
+    show(rt, case, number, 0, word)
 }
 
 // The same by the product rule.
-fn product_case(case: u64, n: usize, g: u64, message: &[u8], word: &mut [u8]) {
+fn product_case(
+    rt: &impl Print,
+    case: u64,
+    n: usize,
+    g: u64,
+    message: &[u8],
+    word: &mut [u8],
+) -> io::Result<()> {
     let number = words::encode_product(n, g, message, word);
-    show(case, number, 0, word);
+    show(rt, case, number, 0, word)
 }
 
 // Case, number, remainder.
-fn remainder_case(case: u64, n: usize, g: u64, word: &[u8]) {
+fn remainder_case(rt: &impl Print, case: u64, n: usize, g: u64, word: &[u8]) -> io::Result<()> {
     let x = words::remainder(n, g, word);
-    show(case, x.number, x.remainder, b"");
+    show(rt, case, x.number, x.remainder, b"")
 }
 
 // Case, number, cells mended, message: by the decoder, and by the clocked reader.
 fn reading_case(
+    rt: &impl Print,
     case: u64,
     n: usize,
     g: u64,
@@ -78,30 +100,46 @@ fn reading_case(
     word: &[u8],
     message: &mut [u8],
     clocked: &mut [u8],
-) {
+) -> io::Result<()> {
     let x = words::decode_systematic(n, g, rule, word, message);
-    show(case, x.number, x.mended, message);
+    show(rt, case, x.number, x.mended, message)?;
     let y = reader::read(n, g, rule, word, clocked);
-    show(case, y.number, y.mended, clocked);
+    show(rt, case, y.number, y.mended, clocked)
 }
 
 // Case and number.
-fn check_case(case: u64, n: usize, g: u64, rule: u64) {
-    show(case, codes::check_rule(n, g, rule), 0, b"");
+fn check_case(rt: &impl Print, case: u64, n: usize, g: u64, rule: u64) -> io::Result<()> {
+    show(rt, case, codes::check_rule(n, g, rule), 0, b"")
 }
 
-fn main() {
-    division_case(1, &[1, 0, 1, 0, 1, 0, 0, 0, 1, 1], 45, &mut [0; 10]);
-    division_case(2, &[1, 1, 0, 0, 0, 1, 1, 1], 21, &mut [0; 8]);
-    division_case(3, &[1, 1, 1, 0, 0, 1, 1], 11, &mut [0; 7]);
-    systematic_case(4, 7, 11, &[1, 1, 0, 1], &mut [0; 7]);
-    systematic_case(5, 7, 11, &[1, 0, 0, 1], &mut [0; 7]);
-    systematic_case(6, 7, 13, &[0, 0, 1, 0], &mut [0; 7]);
-    product_case(7, 7, 11, &[0, 1, 0, 1], &mut [0; 7]);
-    systematic_case(8, 15, 1335, &[1, 0, 1, 0, 1], &mut [0; 15]);
-    systematic_case(9, 15, 465, &[0, 0, 1, 1, 1, 0, 0], &mut [0; 15]);
-    remainder_case(10, 15, 1335, &[1, 0, 0, 0, 0, 0, 1, 0, 1, 0, 1, 0, 0, 0, 1]);
+// Cases 1 to 3.
+fn divisions(rt: &impl Print) -> io::Result<()> {
+    division_case(rt, 1, &[1, 0, 1, 0, 1, 0, 0, 0, 1, 1], 45, &mut [0; 10])?;
+    division_case(rt, 2, &[1, 1, 0, 0, 0, 1, 1, 1], 21, &mut [0; 8])?;
+    division_case(rt, 3, &[1, 1, 1, 0, 0, 1, 1], 11, &mut [0; 7])
+}
+
+// Cases 4 to 10.
+fn encodings(rt: &impl Print) -> io::Result<()> {
+    systematic_case(rt, 4, 7, 11, &[1, 1, 0, 1], &mut [0; 7])?;
+    systematic_case(rt, 5, 7, 11, &[1, 0, 0, 1], &mut [0; 7])?;
+    systematic_case(rt, 6, 7, 13, &[0, 0, 1, 0], &mut [0; 7])?;
+    product_case(rt, 7, 7, 11, &[0, 1, 0, 1], &mut [0; 7])?;
+    systematic_case(rt, 8, 15, 1335, &[1, 0, 1, 0, 1], &mut [0; 15])?;
+    systematic_case(rt, 9, 15, 465, &[0, 0, 1, 1, 1, 0, 0], &mut [0; 15])?;
+    remainder_case(
+        rt,
+        10,
+        15,
+        1335,
+        &[1, 0, 0, 0, 0, 0, 1, 0, 1, 0, 1, 0, 0, 0, 1],
+    )
+}
+
+// Cases 11 to 14.
+fn readings(rt: &impl Print) -> io::Result<()> {
     reading_case(
+        rt,
         11,
         7,
         11,
@@ -109,8 +147,9 @@ fn main() {
         &[1, 1, 0, 1, 1, 0, 1],
         &mut [0; 4],
         &mut [0; 4],
-    );
+    )?;
     reading_case(
+        rt,
         12,
         15,
         465,
@@ -118,8 +157,9 @@ fn main() {
         &[1, 0, 1, 1, 1, 0, 0, 1, 1, 0, 0, 0, 0, 0, 0],
         &mut [0; 7],
         &mut [0; 7],
-    );
+    )?;
     reading_case(
+        rt,
         13,
         15,
         465,
@@ -127,8 +167,9 @@ fn main() {
         &[0, 0, 0, 0, 0, 0, 0, 0, 0, 0, 0, 0, 1, 0, 1],
         &mut [0; 7],
         &mut [0; 7],
-    );
+    )?;
     reading_case(
+        rt,
         14,
         7,
         11,
@@ -136,14 +177,25 @@ fn main() {
         &[0, 0, 0, 0, 0, 1, 1],
         &mut [0; 4],
         &mut [0; 4],
-    );
-    check_case(15, 1, 3, 0);
-    check_case(15, 2, 3, 0);
-    check_case(15, 2, 3, 1);
-    check_case(15, 63, 67, 0);
-    check_case(15, 64, 67, 0);
-    check_case(15, 7, 10, 0);
-    check_case(15, 8, 11, 0);
-    check_case(15, 7, 11, 3);
-    check_case(15, 7, 11, 2);
+    )
+}
+
+// Case 15.
+fn checks(rt: &impl Print) -> io::Result<()> {
+    check_case(rt, 15, 1, 3, 0)?;
+    check_case(rt, 15, 2, 3, 0)?;
+    check_case(rt, 15, 2, 3, 1)?;
+    check_case(rt, 15, 63, 67, 0)?;
+    check_case(rt, 15, 64, 67, 0)?;
+    check_case(rt, 15, 7, 10, 0)?;
+    check_case(rt, 15, 8, 11, 0)?;
+    check_case(rt, 15, 7, 11, 3)?;
+    check_case(rt, 15, 7, 11, 2)
+}
+
+fn main(rt: HostRuntime) -> io::Result<()> {
+    divisions(&rt)?;
+    encodings(&rt)?;
+    readings(&rt)?;
+    checks(&rt)
 }
