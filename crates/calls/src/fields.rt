@@ -1,7 +1,6 @@
 // The fields of a line, each behind one space. A field that is missing or not of its form has its end at NOWHERE: no field begins there and no line ends
 // there, so a line is clear if its last field ends where the line does.
 ghost use Rattle.std.specs.Prelude.{◌≤◌, ◌<◌, length};
-ghost use Rattle.io.specs.Counts.{IsPrefixLen};
 
 use reader::Reader;
 
@@ -131,7 +130,7 @@ fn cell_at(line: &[u8], i: usize) -> Cell
 
 // Cells, put into the front of those that are lent, as far as they reach: what is left begins no field.
 pub(crate) fn cells_at(line: &[u8], at: usize, cells: &mut [u8]) -> Cells
-    ensures { IsPrefixLen result.count cells.new }
+    ensures { result.count ≤ length cells.new }
 {
     let first = behind(line, at, b' ');
     let mut i = first;

@@ -9,10 +9,10 @@ mod lent;
 mod plain;
 mod results;
 
-ghost use Rattle.std.specs.Prelude.{◌≤◌, length};
-ghost use Rattle.io.specs.Counts.{IsPrefixLen};
+ghost use Rattle.std.specs.Prelude.{◌≤◌, length, IfOk};
 
-use libc::{STDIN_FILENO, STDOUT_FILENO};
+use std::io;
+use std::io::Read;
 
 // The call that a line's letter names.
 fn call(letter: u8, line: &[u8], out: &mut [u8], at: usize) -> usize {
@@ -37,21 +37,22 @@ fn letter_of(line: &[u8]) -> u8 {
 }
 
 // Writes the output up to a place.
-fn write_out(out: &[u8], at: usize) {
+fn write_out(rt: &impl Print, out: &[u8], at: usize) -> io::Result<()> {
     if at <= out.len() {
-        io::write_all(STDOUT_FILENO, &out[..at]);
+        return rt.write_all(&out[..at]);
     }
+    Ok(())
 }
 
 // The results of one line, put into the output, which is written while there is still room for the longest line.
-fn answer(line: &[u8], out: &mut [u8], at: usize) -> usize {
+fn answer(rt: &impl Print, line: &[u8], out: &mut [u8], at: usize) -> io::Result<usize> {
     let next = call(letter_of(line), line, out, at);
     let end = text::put_bytes(out, next, b"\n");
     if end < 32768 {
-        return end;
+        return Ok(end);
     }
-    write_out(out, end);
-    0
+    write_out(rt, out, end)?;
+    Ok(0)
 }
 
 // The place of the next line feed, or the end.
@@ -70,19 +71,19 @@ fn line_end(input: &[u8], from: usize) -> usize
 }
 
 // Answers all lines that are whole, and hands back the place behind them.
-fn answer_lines(input: &[u8], out: &mut [u8]) -> usize
-    ensures { result ≤ length input.now }
+fn answer_lines(rt: &impl Print, input: &[u8], out: &mut [u8]) -> io::Result<usize>
+    ensures { IfOk result (λ next. next ≤ length input.now) }
 {
     let mut next: usize = 0;
     let mut at: usize = 0;
     let mut end = line_end(input, 0);
     while end < input.len() {
-        at = answer(&input[next..end], out, at);
+        at = answer(rt, &input[next..end], out, at)?;
         next = end + 1;
         end = line_end(input, next);
     }
-    write_out(out, at);
-    next
+    write_out(rt, out, at)?;
+    Ok(next)
 }
 
 // Moves what stands from a place on to the front, and hands back how much that is.
@@ -118,35 +119,48 @@ fn close_line(input: &mut [u8], end: usize) -> usize
 }
 
 // Reads behind what is kept of the last block, until the buffer is full or the input ends, and hands back where that is.
-fn fill(input: &mut [u8], kept: usize) -> usize
+fn fill(source: &mut impl Read, input: &mut [u8], kept: usize) -> io::Result<usize>
     requires { kept ≤ length input.old }
-    ensures { IsPrefixLen result input.new }
+    ensures { IfOk result (λ end. end ≤ length input.new) }
 {
-    let got = io::read_full(STDIN_FILENO, &mut input[kept..]);
-    close_line(input, kept + got)
+    let mut end = kept;
+    while end < input.len() {
+        let more = source.read(&mut input[end..])?;
+        if more == 0 {
+            break;
+        }
+        end += more;
+    }
+    Ok(close_line(input, end))
 }
 
 // Answers standard input to its end. The turns are counted since a proved loop has to end; no run uses them up.
-fn run(input: &mut [u8], out: &mut [u8]) {
+fn run(
+    rt: &impl Print,
+    source: &mut impl Read,
+    input: &mut [u8],
+    out: &mut [u8],
+) -> io::Result<()> {
     let mut kept: usize = 0;
     let mut turns = u64::MAX;
     while turns > 0 {
-        let end = fill(input, kept);
-        let next = answer_lines(&input[..end], out);
+        let end = fill(source, input, kept)?;
+        let next = answer_lines(rt, &input[..end], out)?;
         if end < input.len() {
-            return;
+            return Ok(());
         }
         if next == 0 {
-            io::write_all(STDOUT_FILENO, b"a line is too long\n");
-            return;
+            return rt.write_all(b"a line is too long\n");
         }
         kept = move_front(input, next);
         turns -= 1;
     }
+    Ok(())
 }
 
-fn main() {
-    let mut input = io::large_buffer();
-    let mut out = io::large_buffer();
-    run(&mut input, &mut out);
+fn main(rt: HostRuntime) -> io::Result<()> {
+    let mut source = rt.stdin();
+    let mut input = [0u8; 65536];
+    let mut out = [0u8; 65536];
+    run(&rt, &mut source, &mut input, &mut out)
 }
