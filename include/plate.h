@@ -1,5 +1,5 @@
 /*
- * The one plate reader, for C. Link with libplate.a (`rt staticlib plate` writes target/staticlib/libplate.a).
+ * The one plate reader, for C. Link with libplate.a (`rt lib` in crates/plate writes crates/plate/out/libplate.a).
  *
  * A cell is a byte 0 or 1, and the first cell of a word is the highest power of x. A generator or a divisor is a number whose bit i is the
  * coefficient of x^i, so x^3+x+1 is 11. A code is a length n from 2 to 63 and an odd generator g of a degree r from 1 to 32, below n, that divides

@@ -13,10 +13,10 @@ if [ -n "$missing" ]; then
     apt-get update -qq && apt-get install -y -qq $missing >/dev/null
 fi
 command -v parallel >/dev/null || { apt-get update -qq && apt-get install -y -qq parallel; } >/dev/null 2>&1 || true
-rt staticlib plate >/dev/null
 out=$(mktemp -d)
 trap 'rm -rf "$out"' EXIT
-gcc -O2 -Wall -Wextra -Werror -Iinclude tests/c/calls.c -Ltarget/staticlib -lplate -o "$out/calls"
+(cd crates/plate && rt lib) >"$out/lib.log" 2>&1 || { cat "$out/lib.log"; exit 1; }
+gcc -O2 -Wall -Wextra -Werror -Iinclude tests/c/calls.c -Lcrates/plate/out -lplate -o "$out/calls"
 "$out/calls" <crates/calls/stdin >"$out/stdout"
 cmp "$out/stdout" crates/calls/stdout
 echo "tests: the C calls are as expected"
@@ -27,7 +27,7 @@ echo "tests: the Rust calls are as expected"
 fenced() { sed -n "/^\`\`\`$1\$/,/^\`\`\`\$/p" README.md | sed '1d;$d'; }
 fenced c | cmp - examples/read.c
 fenced rust | cmp - rust/plate/examples/read.rs
-gcc -O2 -Wall -Wextra -Werror -Iinclude examples/read.c -Ltarget/staticlib -lplate -o "$out/read"
+gcc -O2 -Wall -Wextra -Werror -Iinclude examples/read.c -Lcrates/plate/out -lplate -o "$out/read"
 [ "$("$out/read")" = "message 1101, 1 cell mended" ]
 CARGO_TARGET_DIR="$out/cargo" cargo run --quiet --offline --manifest-path rust/plate/Cargo.toml --example read >"$out/read.log" 2>&1 || { cat "$out/read.log"; exit 1; }
 [ "$(cat "$out/read.log")" = "message [1, 1, 0, 1], 1 cell mended" ]

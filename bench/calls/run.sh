@@ -3,8 +3,8 @@
 set -eu
 unset CDPATH
 cd "$(dirname "$0")/../.."
-[ -f target/staticlib/libplate.a ] || rt staticlib plate >/dev/null
+[ -f crates/plate/out/libplate.a ] || (cd crates/plate && rt lib >/dev/null)
 out=$(mktemp -d)
 trap 'rm -rf "$out"' EXIT
-gcc -O2 -Wall -Wextra -Iinclude bench/calls/calls.c -Ltarget/staticlib -lplate -o "$out/calls"
+gcc -O2 -Wall -Wextra -Iinclude bench/calls/calls.c -Lcrates/plate/out -lplate -o "$out/calls"
 "$out/calls"

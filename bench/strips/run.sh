@@ -5,13 +5,13 @@ unset CDPATH
 
 here=$(cd "$(dirname "$0")" && pwd)
 repository=$(cd "$here/../.." && pwd)
-proved=$repository/target/bin/strips
+proved=$repository/crates/strips/out/strips
 work=$(mktemp -d)
 trap 'rm -rf "$work"' EXIT
 trap 'exit 1' HUP INT TERM
 
 gcc -O2 -o "$work/strips" "$here/strips.c"
-[ -x "$proved" ] || (cd "$repository" && rt check strips)
+[ -x "$proved" ] || (cd "$repository/crates/strips" && rt run </dev/null)
 
 # best PROGRAM: the least of five times over the records, in nanoseconds
 best() {

@@ -1,7 +1,7 @@
 #!/bin/bash
 # The program `strips` and the script that runs it, past their edges. The lines of a block of records are proved; that blocks are read and written one
 # after the other, and what the script does, is not, and is tested here: against the C program, with reads and writes that move little or fail, and with
-# streams, folders and signals as they can come. It wants the program proved and built (`rt check strips`), gcc and python3.
+# streams, folders and signals as they can come. It builds the program first, if that is not done, and wants gcc and python3.
 set -euo pipefail
 unset CDPATH
 cd "$(dirname "$0")/../.."
@@ -20,6 +20,8 @@ gives() {
 sh_gives() { gives "$1" "$2" bash -c "$3"; }
 unread="strips: standard input cannot be read"
 unwritten="strips: standard output cannot be written"
+
+./strips </dev/null >"$out/built" 2>&1 || { cat "$out/built"; fault "it could not be built"; }
 
 # ---- what is printed
 
@@ -63,7 +65,7 @@ same "1,000,000 records from a pipe" "$out/lines" "$out/all"
 gcc -O2 -Wall -Wextra -Werror -shared -fPIC -o "$out/streams.so" tests/strips/streams.c
 head -c 786439 "$out/records" >"$out/part"
 "$out/strips" <"$out/part" >"$out/expected"
-with() { gives 0 "$1" env "${@:2}" LD_PRELOAD="$out/streams.so" target/bin/strips; }
+with() { gives 0 "$1" env "${@:2}" LD_PRELOAD="$out/streams.so" crates/strips/out/strips; }
 with "" READ_MOST=4093 WRITE_MOST=5003 <"$out/part"
 same "small reads and writes" "$out/lines" "$out/expected"
 for bytes in 0 15 16 40 262144 262150 600000; do
@@ -119,7 +121,7 @@ touch crates.txt
 wait $!
 same "the first of two" "$out/first" "$out/sample"
 same "the second of two" "$out/second" "$out/sample"
-[ "$(cat "$out/first.said" "$out/second.said" | grep -c '^rt: ok')" = 1 ] || fault "two at once did not build it once"
+[ "$(cat "$out/first.said" "$out/second.said" | grep -c '^rt: running out/strips')" = 1 ] || fault "two at once did not build it once"
 
 # ---- on several cores: parts of whole records print what the whole prints
 

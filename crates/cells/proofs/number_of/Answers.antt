@@ -33,20 +33,23 @@ small w i p long bits l e = rw e (read_lt w i bits long l)
 pub overflow_mul-p : goal.overflow_mul-p
 overflow_mul-p c =
     omega (
-    arith,
-    small c.args.word.now c.loop-i.i c.loop-i.p (omega arith) (first_bad_cells c.first_bad.ensures c.if-first_bad-word.false) c.loop-i-test.true c.loop-i.invariant.1)
+      arith,
+      small c.args.word.now c.loop-i.i c.loop-i.p (omega arith) (first_bad_cells c.first_bad.ensures c.if-first_bad-word.false) c.loop-i-test.true c.loop-i.invariant.1,
+    )
 
 pub overflow_cast-p : goal.overflow_cast-p
 overflow_cast-p c =
     omega (
-    arith,
-    small c.args.word.now c.loop-i.i c.loop-i.p (omega arith) (first_bad_cells c.first_bad.ensures c.if-first_bad-word.false) c.loop-i-test.true c.loop-i.invariant.1)
+      arith,
+      small c.args.word.now c.loop-i.i c.loop-i.p (omega arith) (first_bad_cells c.first_bad.ensures c.if-first_bad-word.false) c.loop-i-test.true c.loop-i.invariant.1,
+    )
 
 pub overflow_add-p : goal.overflow_add-p
 overflow_add-p c =
     omega (
-    arith,
-    small c.args.word.now c.loop-i.i c.loop-i.p (omega arith) (first_bad_cells c.first_bad.ensures c.if-first_bad-word.false) c.loop-i-test.true c.loop-i.invariant.1)
+      arith,
+      small c.args.word.now c.loop-i.i c.loop-i.p (omega arith) (first_bad_cells c.first_bad.ensures c.if-first_bad-word.false) c.loop-i-test.true c.loop-i.invariant.1,
+    )
 
 pub loop-i-preserved : goal.loop-i-preserved
 loop-i-preserved c =

@@ -3,7 +3,6 @@ use mathlib.Core.Logic.{inl, inr}
 use mathlib.Core.Path.{refl, subst}
 use Prim.Native.Nat.{ℕ, ◌^◌}
 use native.Mathlib.Omega.{arith}
-use borrow.Author.Tests.{not-true, not-false}
 use Rattle.poly.specs.Poly.{sum, Divided}
 use Rattle.codes.specs.Code.{Generator}
 use Rattle.codes.proofs.Checking.{generator_pos, generator_lt, power_one, nothing_left, left_nothing}
@@ -17,10 +16,10 @@ pub returns-then-n-gt63 : goal.returns-then-n-gt63
 returns-then-n-gt63 c = inl (omega arith, refl)
 
 pub returns-then-not-generates : goal.returns-then-not-generates
-returns-then-not-generates c = inr ((omega arith, omega arith), inl (c.generates.ensures.no (not-true _ c.if-not-generates.true-raw), refl))
+returns-then-not-generates c = inr ((omega arith, omega arith), inl (c.generates.ensures.no c.if-not-generates.true, refl))
 
 generator : (c : Else-not-generates) → Generator c.args.n c.args.g
-generator c = c.generates.ensures.yes (not-false _ c.if-not-generates.false-raw)
+generator c = c.generates.ensures.yes c.if-not-generates.false
 
 -- x^n + 1 divided by g
 whole : (c : After-divide_number-whole)

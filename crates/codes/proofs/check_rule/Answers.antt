@@ -3,7 +3,6 @@ use mathlib.Core.Logic.{inl, inr}
 use mathlib.Core.Path.{refl}
 use Prim.Native.Nat.{ℕ}
 use native.Mathlib.Omega.{arith}
-use borrow.Author.Tests.{not-true, not-false}
 use Rattle.verdict.specs.Verdict.{Verdict}
 use Rattle.verdict.proofs.Verdict.{verdict_stop, verdict_on}
 use Rattle.codes.specs.Code.{code_checks}
@@ -35,7 +34,7 @@ pub carries-requires : goal.carries-requires
 carries-requires c = code_given (code c.before.before) c.degree_of.ensures
 
 pub returns-then-not-carries : goal.returns-then-not-carries
-returns-then-not-carries c = decided c.before.before.before.before 5 (inr (omega arith, inl (c.carries.ensures.no (not-true _ c.if-not-carries.true-raw), refl)))
+returns-then-not-carries c = decided c.before.before.before.before 5 (inr (omega arith, inl (c.carries.ensures.no c.if-not-carries.true, refl)))
 
 pub returns : goal.returns
-returns c = decided c.before.before.before.before 0 (inr (omega arith, inr (c.carries.ensures.yes (not-false _ c.if-not-carries.false-raw), refl)))
+returns c = decided c.before.before.before.before 0 (inr (omega arith, inr (c.carries.ensures.yes c.if-not-carries.false, refl)))

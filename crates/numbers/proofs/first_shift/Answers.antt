@@ -14,8 +14,7 @@ returns-then-p-s c =
 
 pub loop-i-preserved : goal.loop-i-preserved
 loop-i-preserved c =
-    let l = c.loop-i in
-    (
+    let l = c.loop-i in (
       omega arith,
       shift_next c.args.e l.i c.requires.2 c.requires.1 l.invariant.1 c.low_shift-p.ensures,
       below_more _ _ l.invariant.2 (λ v. c.if-p-s.false (remainder_unique l.invariant.1 v)),

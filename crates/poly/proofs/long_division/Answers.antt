@@ -60,8 +60,7 @@ overflow_mul-s c =
 pub loop-i-preserved : goal.loop-i-preserved
 unfolding reduce
 loop-i-preserved c =
-    let l = c.loop-i in
-    (
+    let l = c.loop-i in (
       omega arith,
       quotient_fits c.args.p l.i c.requires.1 c.requires.0 (omega arith) l.invariant.2 l.invariant.0 l.invariant.1,
       digit_divided c.args.p l.i c.requires.1 c.requires.0 (omega arith) l.invariant.2,

@@ -1,6 +1,5 @@
 -- A register that is ready stays within r + 1 digits, and is then reduced.
 use native.Mathlib.Omega.{arith}
-use borrow.Author.Tests.{not-true, not-false}
 use mathlib.Core.Path.{refl}
 use Rattle.verdict.proofs.Verdict.{where_holds, where_fails}
 use Rattle.poly.specs.Shifts.{Ready}
@@ -9,11 +8,11 @@ use Rattle.poly.proofs.low_shift.Goals as goal
 use Rattle.poly.proofs.low_shift.Goals.{Else-not-ready}
 
 pub returns-then-not-ready : goal.returns-then-not-ready
-returns-then-not-ready c = where_fails (c.ready.ensures.no (not-true _ c.if-not-ready.true-raw)) refl
+returns-then-not-ready c = where_fails (c.ready.ensures.no c.if-not-ready.true) refl
 
 -- the register is ready
 fine : (c : Else-not-ready) → Ready c.args.r c.args.g c.args.s c.args.c
-fine c = c.ready.ensures.yes (not-false _ c.if-not-ready.false-raw)
+fine c = c.ready.ensures.yes c.if-not-ready.false
 
 pub overflow_mul-s : goal.overflow_mul-s
 overflow_mul-s c = omega (arith, ready_small (fine c))

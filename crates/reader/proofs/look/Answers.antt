@@ -1,7 +1,6 @@
 -- The trigger decides, and what a mended reader has is written field by field.
 use mathlib.Core.Logic.{inl, inr}
 use mathlib.Core.Path.{refl}
-use borrow.Author.Tests.{not-true, not-false}
 use Rattle.reader.proofs.Form.{form_code}
 use Rattle.reader.proofs.Rounds.{halved_effect}
 use Rattle.reader.proofs.look.Goals as goal
@@ -20,7 +19,7 @@ returns c =
     let other = found.before.before in
     let s = other.before.before in
     inl (
-      (other.triggers.ensures s.args.i s.requires.1).yes (not-false _ other.if-not-triggers.false-raw),
+      (other.triggers.ensures s.args.i s.requires.1).yes other.if-not-triggers.false,
       record {
         effect = found.halved.result;
         remainder = halved_effect (form_code s.requires.0) found.halved.ensures;

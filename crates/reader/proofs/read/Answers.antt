@@ -3,7 +3,6 @@ use mathlib.Core.List.{List, [], ◌∷◌, ◌++◌}
 use mathlib.Core.Logic.{inl, inr}
 use mathlib.Core.Path.{◌≡◌, refl}
 use Prim.Native.Nat.{ℕ, ◌+◌, ◌-◌, ◌<◌}
-use lib.ListN.{length}
 use Rattle.poly.specs.Poly.{Degree}
 use Rattle.poly.specs.Cells.{Cells, poly}
 use Rattle.verdict.specs.Verdict.{Check, Verdict, Passed, Where}
@@ -75,8 +74,10 @@ returns-then-first_bad-n c =
     let code = verdict_passed (rule_checks c.args.n c.args.g c.args.rule) tt c.start-started.ensures.verdict c.if-number-ne0.false in
     settles_refused (rule_checks a.n a.g a.rule ++ later a.n a.g a.rule a.message.now a.word.now) tt
     (decided a.n a.g a.rule a.message.now a.word.now 7 code
-    (inr ((room code c.degree_of.ensures c.if-message-n.false, c.if-word-n.false),
-    inl (first_bad_none c.first_bad.ensures (omega (arith, c.if-first_bad-n.true, c.if-word-n.false)), refl)))) (refl, refl)
+    (inr (
+      (room code c.degree_of.ensures c.if-message-n.false, c.if-word-n.false),
+      inl (first_bad_none c.first_bad.ensures (omega (arith, c.if-first_bad-n.true, c.if-word-n.false)), refl),
+    ))) (refl, refl)
 
 pub through-last-requires : goal.through-last-requires
 through-last-requires c =

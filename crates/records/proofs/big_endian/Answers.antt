@@ -24,7 +24,7 @@ more c =
     let k = c.before in
     let l = k.loop-i in
     let i : l.i < 8 = omega (arith, k.loop-i-test.true) in
-    read_fits l.i l.v c.wide.result i l.invariant.1 (omega (arith, c.wide.ensures, k.shared_slice_known-in-loop-i-1.given l.i))
+    read_fits l.i l.v c.wide.result i l.invariant.1 (omega (arith, c.wide.ensures, c.type_inv.bytes l.i))
 
 pub overflow_add-v : goal.overflow_add-v
 overflow_add-v c = record { fits = (more c).2 }

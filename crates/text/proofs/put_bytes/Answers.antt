@@ -5,18 +5,18 @@ use native.Mathlib.Omega.{arith}
 use lib.ListN.{length, take, length-set}
 use lib.Seq.{paste-zero, paste-suc, take-length}
 use borrow.Author.Rules.{rules}
-use borrow.Author.Tests.{leb-true, leb-false, not-true, not-false}
+use borrow.Author.Tests.{leb-true, leb-false}
 use Rattle.text.proofs.Puts.{puts_done, puts_full}
 use Rattle.text.proofs.put_bytes.Goals as goal
 
 pub returns-then-not-has_room : goal.returns-then-not-has_room
-returns-then-not-has_room c = puts_full (leb-false _ _ (sym c.has_room.ensures ∙ not-true _ c.if-not-has_room.true-raw))
+returns-then-not-has_room c = puts_full (leb-false _ _ (sym c.has_room.ensures ∙ c.if-not-has_room.true))
 
 pub loop-i-init : goal.loop-i-init
 loop-i-init c =
     let a = c.args in (
       search rules,
-      leb-true _ _ (sym c.has_room.ensures ∙ not-false _ c.if-not-has_room.false-raw),
+      leb-true _ _ (sym c.has_room.ensures ∙ c.if-not-has_room.false),
       refl,
       paste-zero a.out.now a.at a.bytes.now,
     )

@@ -1,7 +1,7 @@
 use mathlib.Core.Path.{sym, ◌∙◌}
 use Prim.Native.Nat.{◌+◌, ◌-◌, ◌≤◌, ◌<◌}
 use lib.ListN.{length, length-set}
-use borrow.Author.Tests.{leb-true, leb-false, not-true, not-false}
+use borrow.Author.Tests.{leb-true, leb-false}
 use native.Mathlib.Omega.{arith}
 use Rattle.text.proofs.Decimal.{decimal_longer}
 use Rattle.text.proofs.Puts.{puts_full}
@@ -11,12 +11,12 @@ use Rattle.text.proofs.put_number.Goals.{Else-not-has_room}
 
 -- the digits have room
 room : (c : Else-not-has_room) → c.args.at + c.count_digits-digits.result ≤ length c.args.out.now
-room c = leb-true _ _ (sym c.has_room.ensures ∙ not-false _ c.if-not-has_room.false-raw)
+room c = leb-true _ _ (sym c.has_room.ensures ∙ c.if-not-has_room.false)
 
 pub returns-then-not-has_room : goal.returns-then-not-has_room
 returns-then-not-has_room c =
     let a = c.args in
-    let l : length a.out.now < a.at + c.count_digits-digits.result = leb-false _ _ (sym c.has_room.ensures ∙ not-true _ c.if-not-has_room.true-raw) in
+    let l : length a.out.now < a.at + c.count_digits-digits.result = leb-false _ _ (sym c.has_room.ensures ∙ c.if-not-has_room.true) in
     puts_full (rw c.count_digits-digits.ensures at l)
 
 pub overflow_add-end : goal.overflow_add-end

@@ -1,5 +1,4 @@
 -- The message on numbers, written as k cells.
-use Prim.Native.Nat.{◌<◌}
 use lib.ListN.{length}
 use Rattle.words.specs.Within.{message_of}
 use Rattle.words.proofs.Lending.{written_cells, says_fits, decode_first, decode_allowed, decode_lent, decode_unread, decode_decoded, decode_length, decode_done}

@@ -1,6 +1,4 @@
 -- The word on numbers, written as n cells; of the systematic one the message's cells stand at the front, and its low digits, the check cells, behind them.
-use Prim.Native.Nat.{◌<◌}
-use Rattle.codes.proofs.Checking.{Code}
 use Rattle.words.proofs.Lending.{encode_first, encode_code, encode_lent, encode_room, product_done, systematic_done}
 use Rattle.words.proofs.encode.Goals as goal
 

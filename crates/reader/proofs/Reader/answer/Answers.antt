@@ -3,7 +3,6 @@ use mathlib.Core.List.{List, [], ◌∷◌}
 use mathlib.Core.Logic.{inl, inr}
 use mathlib.Core.Path.{◌≡◌, refl, sym, ◌∙◌}
 use Prim.Native.Nat.{ℕ, ◌-◌}
-use lib.ListN.{length}
 use Rattle.poly.specs.Poly.{Degree}
 use Rattle.reader.specs.declared.Reader.{Reader}
 use Rattle.verdict.specs.Verdict.{Check}
@@ -56,8 +55,13 @@ unfolding checks
 returns-then-held_in-ne0 c =
     let form : InForm c.args.self = c.in_form.ensures.yes c.if-not-in_form.false in
     settles_refused (checks c.args.self c.args.message.now) tt
-    (inr ((form, c.if-self-n.false), inr (room form (found_degree form.code c.degree_of.ensures) c.if-message-n.false,
-    inl (λ z. c.if-held_in-ne0.true (c.held_in.ensures ∙ z), refl)))) (refl, refl)
+    (inr (
+      (form, c.if-self-n.false),
+      inr (
+        room form (found_degree form.code c.degree_of.ensures) c.if-message-n.false,
+        inl (λ z. c.if-held_in-ne0.true (c.held_in.ensures ∙ z), refl),
+      ),
+    )) (refl, refl)
 
 pub copy_first-requires : goal.copy_first-requires
 copy_first-requires c =
@@ -69,8 +73,13 @@ returns c =
     let form : InForm c.args.self = c.in_form.ensures.yes c.if-not-in_form.false in
     record {
       ordered = tt;
-      verdict = inr ((form, c.if-self-n.false), inr (room form (found_degree form.code c.degree_of.ensures) c.if-message-n.false,
-          inr (sym c.held_in.ensures ∙ c.if-held_in-ne0.false, refl)));
+      verdict = inr (
+        (form, c.if-self-n.false),
+        inr (
+          room form (found_degree form.code c.degree_of.ensures) c.if-message-n.false,
+          inr (sym c.held_in.ensures ∙ c.if-held_in-ne0.false, refl),
+        ),
+      );
       done = λ z. (c.copy_first.ensures, refl);
       refused = λ h. absurd (h refl);
     }

@@ -3,7 +3,6 @@ use mathlib.Core.Path.{◌≡◌}
 use Prim.Native.Nat.{◌-◌, ◌*◌, ◌%◌, ◌^◌, ◌<◌}
 use native.Mathlib.Nat.{mod-eq_of_lt}
 use native.Mathlib.Omega.{arith}
-use borrow.Author.Tests.{not-true, not-false}
 use Rattle.tables.proofs.Entering.{family_cells, family_bounds}
 use Rattle.records.specs.Records.{E}
 use Rattle.codes.proofs.Calls.{message_below}
@@ -21,7 +20,7 @@ pub returns-then-not-allowed : goal.returns-then-not-allowed
 returns-then-not-allowed c =
     let t = c.before in
     let s = t.before.before in
-    let no = t.allowed.ensures.no (not-true _ t.if-not-allowed.true-raw) in
+    let no = t.allowed.ensures.no t.if-not-allowed.true in
     rw (c.refused.ensures.0, c.refused.ensures.1, c.refused.ensures.2)
     (nine E λ o m. no (o, message_below (checked s.requires.1) s.requires.1.degree m))
 
@@ -30,7 +29,7 @@ overflow_shl-x c = omega (arith, (family_bounds c.requires.1).1)
 
 -- the message fits
 fine : (c : Else-not-allowed) → (c.args.rule ≡ 0) × (c.args.d < 2 ^ (c.args.n - c.args.r))
-fine c = c.allowed.ensures.yes (not-false _ c.if-not-allowed.false-raw)
+fine c = c.allowed.ensures.yes c.if-not-allowed.false
 
 pub returns : goal.returns
 returns c =

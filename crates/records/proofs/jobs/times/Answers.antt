@@ -2,7 +2,6 @@
 use mathlib.Core.Path.{◌≡◌}
 use Prim.Native.Nat.{◌-◌, ◌^◌, ◌<◌}
 use native.Mathlib.Omega.{arith}
-use borrow.Author.Tests.{not-true, not-false}
 use Rattle.poly.proofs.Degree.{degree_unique}
 use Rattle.families.proofs.Families.{family_pos, family_small}
 use Rattle.tables.proofs.Entering.{family_cells, family_bounds}
@@ -22,13 +21,13 @@ pub returns-then-not-allowed : goal.returns-then-not-allowed
 returns-then-not-allowed c =
     let t = c.before in
     let s = t.before.before in
-    let no = t.allowed.ensures.no (not-true _ t.if-not-allowed.true-raw) in
+    let no = t.allowed.ensures.no t.if-not-allowed.true in
     rw (c.refused.ensures.0, c.refused.ensures.1, c.refused.ensures.2, s.requires.1)
     (nine P λ o m. no (o, message_below (checked s.requires.0) s.requires.0.degree m))
 
 -- the message fits
 fine : (c : Else-not-allowed) → (c.args.rule ≡ 0) × (c.args.d < 2 ^ (c.args.n - c.args.r))
-fine c = c.allowed.ensures.yes (not-false _ c.if-not-allowed.false-raw)
+fine c = c.allowed.ensures.yes c.if-not-allowed.false
 
 pub product-requires : goal.product-requires
 product-requires c =
