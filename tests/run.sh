@@ -1,6 +1,6 @@
 #!/bin/sh
 # The library from C and from Rust: the calls on the lines that the second program made, compared with what it expects; the programs that README.md
-# shows; and the program `strips` and its script (tests/strips). It wants the crates proved (`rt check`); gcc and cargo are installed where they are
+# shows; and the program `strips` and its script (tests/strips). It proves and builds what it runs; gcc and cargo are installed where they are
 # missing, and GNU parallel where it can be had.
 set -eu
 unset CDPATH

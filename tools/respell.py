@@ -1,7 +1,7 @@
 #!/usr/bin/env python3
 """Brings the repository's own definitions and lemmas to the spelling of today's Rattle, after port.py: words are in snake case, a dash stands only
 between the names of two definitions, as in `sum-digit`. What is renamed is what specs/ and the lemma files of proofs/ define; functions of src/ keep
-their names. Run once, at the top; a second run finds nothing to do."""
+their names. Run once, at the top: a second run would take names of today for older ones."""
 import glob
 import re
 import sys
@@ -17,7 +17,6 @@ generators lengths patternAt
 BY_HAND = {
     "low_run": "low_run_lem",
     "high-run": "high_run_lem",
-    "Sum-self": "sum_self",
     "getD-listed": "get_or-listed",
     "degree-of": "degree_of_lem",
     "first-number": "first_number_lem",

@@ -1,33 +1,35 @@
 """Wrong versions of the program's loop and of the script, which nothing proves: each is put into a copy of this repository, and tests/strips/run.sh must
-fail there. It is run by hand when one of the two changes, and is no part of the gate: it takes some minutes. It wants the crates proved (`rt check`)."""
+fail there. It is run by hand when one of the two changes, and is no part of the gate: it takes some minutes. It builds the program anew
+for each."""
 
+import os
 import pathlib
 import shutil
+import signal
 import subprocess
 import sys
 import tempfile
 
 LOOP, SCRIPT = "crates/strips/src/main.rt", "strips"
-WHOLE = "crates/strips/proofs/one_block/Proof.antt"
 
 MUTANTS = [
     ("two blocks and no more", LOOP, "let mut left = u64::MAX;", "let mut left = 1u64;"),
     ("one block and no more", LOOP, "    n == block.len()", "    n != block.len()"),
-    ("stops where the block was written", LOOP, "    if !print(&block[..n], out) {", "    if print(&block[..n], out) {"),
+    ("stops where the block was written", LOOP, "    if !print(rt, &block[..n], out) {", "    if print(rt, &block[..n], out) {"),
     ("goes on where it was not written", LOOP, "    false\n}\n\n// One block", "    true\n}\n\n// One block"),
-    ("goes on where it was not read", LOOP, "cannot be read\\n\");\n        return false;", "cannot be read\\n\");\n        return true;"),
-    ("a small read taken for the end", LOOP, "        if more == 0 {", "        if more < 4096 {"),
-    ("a failed read taken for the end", LOOP, "        if got < 0 {", "        if got < -1 {"),
-    ("each read to the front of the block", LOOP, "libc::read(STDIN_FILENO, &mut block[n..])", "libc::read(STDIN_FILENO, &mut block[0..])"),
-    ("another stream read", LOOP, "libc::read(STDIN_FILENO,", "libc::read(STDERR_FILENO,"),
-    ("lines on standard error", LOOP, "if io::write_all(STDOUT_FILENO,", "if io::write_all(STDERR_FILENO,"),
-    ("a rest where a read failed", LOOP, "n - n % 16", "n - n % 8", WHOLE, "result .count % 16", "result .count % 8"),
-    ("nothing where a read failed", LOOP, "n - n % 16", "n - n % 262144", WHOLE, "result .count % 16", "result .count % 262144"),
-    ("the other message", LOOP, "b\"strips: standard input cannot", "b\"strips: standard output cannot"),
+    ("goes on where it was not read", LOOP, "cannot be read\");\n        return false;", "cannot be read\");\n        return true;"),
+    ("a small read taken for the end", LOOP, "            Ok(0) => {", "            Ok(0..=4095) => {"),
+    ("a failed read taken for the end", LOOP, "                    failed: true,", "                    failed: false,"),
+    ("each read to the front of the block", LOOP, "input.read(&mut block[n..])", "input.read(&mut block[0..])"),
+    ("another stream read", LOOP, "fill(input, block)", "fill(&mut b\"\".as_slice(), block)"),
+    ("lines on standard error", LOOP, "one_block(&rt, &mut input", "one_block(&rt.stderr(), &mut input"),
+    ("a rest where a read failed", LOOP, "n - n % 16", "n - n % 8"),
+    ("nothing where a read failed", LOOP, "n - n % 16", "n - n % 262144"),
+    ("a closed pipe ends the program in silence", LOOP, "    let _ = rt.eprintln(\"strips: standard output cannot be written\");\n", ""),
+    ("the other message", LOOP, "\"strips: standard input cannot", "\"strips: standard output cannot"),
     ("closed standard error", SCRIPT, "( : >&2 ) || exec 2>/dev/null", ":"),
     ("its folder as it was called", SCRIPT, "$(readlink -f -- \"$0\")", "$0"),
     ("two at once", SCRIPT, "flock 3 &&", ":;"),
-    ("a closed pipe ends the program", SCRIPT, "trap '' PIPE", ":"),
     ("what the program says held back", SCRIPT, "printf '%s\\n' \"$said\" >&2; exit 1;", "exit 1;"),
     ("no status of what it says", SCRIPT, "wait \"$watcher\" || exit 1", "wait \"$watcher\""),
     ("no status of a breakdown", SCRIPT, "[ \"$status\" -eq 0 ] ||", "true ||"),
@@ -42,17 +44,28 @@ def last(text):
     return lines[-1][:150] if lines else "no word"
 
 
+def run(command, folder):
+    """What a command gives and writes within two minutes; what it started ends with it."""
+    with subprocess.Popen(command, cwd=folder, stdin=subprocess.DEVNULL, stdout=subprocess.PIPE, stderr=subprocess.STDOUT, text=True, start_new_session=True) as process:
+        try:
+            said, _ = process.communicate(timeout=120)
+            return process.returncode, said
+        finally:
+            if process.poll() is None:
+                os.killpg(process.pid, signal.SIGKILL)
+
+
 def shown_by(copy, path):
     """What shows the mutant that stands in the copy, or None."""
     try:
         if path == LOOP:
-            built = subprocess.run(["rt", "check", "strips"], cwd=copy, capture_output=True, text=True, timeout=600)
-            if built.returncode:
-                return "it is not proved" if "strips NOT PROVED" in built.stdout else "rt check: it writes something else than crates/strips/stdout"
-        tests = subprocess.run(["bash", "tests/strips/run.sh"], cwd=copy, capture_output=True, text=True, timeout=120)
+            status, said = run(["rt", "run"], copy / "crates/strips")
+            if status:
+                return f"it is not proved: {last(said)}"
+        status, said = run(["bash", "tests/strips/run.sh"], copy)
     except subprocess.TimeoutExpired:
         return "no end in two minutes"
-    return None if tests.returncode == 0 else last(tests.stdout)
+    return None if status == 0 else last(said)
 
 
 def main():
@@ -60,7 +73,7 @@ def main():
     missed = 0
     with tempfile.TemporaryDirectory() as folder:
         copy = pathlib.Path(folder) / "plates"
-        shutil.copytree(here, copy, symlinks=True, ignore=shutil.ignore_patterns(".git", "must-fail", "inc"))
+        shutil.copytree(here, copy, symlinks=True, ignore=shutil.ignore_patterns(".git", "must-fail", "incremental"))
         for name, *edits in MUTANTS:
             changed = {}
             for path, old, new in zip(edits[0::3], edits[1::3], edits[2::3]):

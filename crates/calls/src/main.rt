@@ -118,20 +118,19 @@ fn close_line(input: &mut [u8], end: usize) -> usize
     end + 1
 }
 
-// Reads behind what is kept of the last block, until the buffer is full or the input ends, and hands back where that is.
-fn fill(source: &mut impl Read, input: &mut [u8], kept: usize) -> io::Result<usize>
+// Reads behind what is kept of the last block, until the buffer is full, the input ends or a read fails, and hands back where that is.
+fn fill(source: &mut impl Read, input: &mut [u8], kept: usize) -> usize
     requires { kept ≤ length input.old }
-    ensures { IfOk result (λ end. end ≤ length input.new) }
+    ensures { result ≤ length input.new }
 {
     let mut end = kept;
     while end < input.len() {
-        let more = source.read(&mut input[end..])?;
-        if more == 0 {
-            break;
+        match source.read(&mut input[end..]) {
+            Ok(0) | Err(_) => break,
+            Ok(more) => end += more,
         }
-        end += more;
     }
-    Ok(close_line(input, end))
+    close_line(input, end)
 }
 
 // Answers standard input to its end. The turns are counted since a proved loop has to end; no run uses them up.
@@ -144,7 +143,7 @@ fn run(
     let mut kept: usize = 0;
     let mut turns = u64::MAX;
     while turns > 0 {
-        let end = fill(source, input, kept)?;
+        let end = fill(source, input, kept);
         let next = answer_lines(rt, &input[..end], out)?;
         if end < input.len() {
             return Ok(());

@@ -7,7 +7,7 @@ use native.Mathlib.Nat.{zero-div}
 use native.Mathlib.Omega.{arith}
 use lib.Pow.{pow_pos, pow-lt}
 use Rattle.poly.specs.Poly.{sum, coefficient}
-use Rattle.poly.proofs.Sum.{sum_lt, Sum-self, sum_back, sum_comm, sum_assoc, sum-zero}
+use Rattle.poly.proofs.Sum.{sum_lt, sum_self, sum_back, sum_comm, sum_assoc, sum-zero}
 use Rattle.poly.proofs.Coefficient.{power_place, pair_place}
 use Rattle.verdict.specs.Verdict.{Passed}
 use Rattle.codes.specs.Mending.{Pattern, none, single, pair, ends, Carries, carry_checks}
@@ -20,7 +20,7 @@ module _ (n : ℕ) (P : ℕ → Type 0) (one : (i : ℕ) → i < n → P (2 ^ i)
     where
       go : (i ≡ j) ⊎ (i ≡ k) → P (sum (sum (2 ^ j) (2 ^ k)) (2 ^ i))
       go (inl e) = rw (e, sum_comm (sum (2 ^ j) (2 ^ k)) (2 ^ j), sum_back) (one k lk)
-      go (inr e) = rw (e, sum_assoc, Sum-self, sum-zero) (one j lj)
+      go (inr e) = rw (e, sum_assoc, sum_self, sum-zero) (one j lj)
 
 module _ {n : ℕ} (rule : ℕ) (least : 2 ≤ n) where
   -- a pattern's places are among the n
@@ -33,7 +33,7 @@ module _ {n : ℕ} (rule : ℕ) (least : 2 ≤ n) where
   -- less one of its cells it is a pattern
   pub pattern_part : {e : ℕ} (i : ℕ) → Pattern n rule e → coefficient e i ≡ 1 → Pattern n rule (sum e (2 ^ i))
   pattern_part i none h = let n : ⊥ = omega (arith, ap (λ (x : ℕ). x % 2) (zero-div (2 ^ i))) in absurd n
-  pattern_part i (single j l k) h = rw (power_place j i h, Sum-self) none
+  pattern_part i (single j l k) h = rw (power_place j i h, sum_self) none
   pattern_part i (pair j l k) h = pair_part n (Pattern n rule) (λ a b. single a b (omega arith)) (suc j) j i l (omega arith) h
   pattern_part i (ends k) h = pair_part n (Pattern n rule) (λ a b. single a b (omega arith)) (n - 1) 0 i (omega arith) (omega arith) h
 

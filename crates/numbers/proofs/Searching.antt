@@ -8,7 +8,7 @@ use native.Mathlib.Omega.{arith}
 use lib.Dec.{lit<}
 use lib.Pow.{shl_exact}
 use Rattle.poly.specs.Poly.{sum, Remainder}
-use Rattle.poly.proofs.Sum.{sum_shift, sum_comm, sum_assoc, sum_left_comm, Sum-self, sum-zero}
+use Rattle.poly.proofs.Sum.{sum_shift, sum_comm, sum_assoc, sum_left_comm, sum_self, sum-zero}
 use Rattle.poly.proofs.Division.{remainder_same, remainder_unique, remainder_zero}
 use Rattle.codes.specs.Mending.{Pattern, none, single, pair, ends}
 use Rattle.codes.proofs.Checking.{Code, generator_pos}
@@ -26,7 +26,7 @@ ends_differ n pos =
     let a = 2 ^ (n - 1) in
     ap (sum (sum a 1)) (three_shift (n - 1) ∙ ap (λ (x : ℕ). sum (2 ^ x) a) top)
     ∙ ap (λ (x : ℕ). sum x (sum (2 ^ n) a)) (sum_comm a 1)
-    ∙ sum_assoc 1 a (sum (2 ^ n) a) ∙ ap (sum 1) (sum_left_comm a (2 ^ n) a ∙ ap (sum (2 ^ n)) (Sum-self a) ∙ sum-zero (2 ^ n)) ∙ sum_comm 1 (2 ^ n)
+    ∙ sum_assoc 1 a (sum (2 ^ n) a) ∙ ap (sum 1) (sum_left_comm a (2 ^ n) a ∙ ap (sum (2 ^ n)) (sum_self a) ∙ sum-zero (2 ^ n)) ∙ sum_comm 1 (2 ^ n)
 
 module _ {n g : ℕ} (code : Code n g) where
   pos : 0 < n

@@ -13,7 +13,7 @@ use lib.Dec.{lit<}
 use lib.Pow.{pow-add, pow-lt, pow_mono, shr-shr, shl-shr}
 use Rattle.poly.specs.Poly.{sum, coefficient}
 use Rattle.poly.proofs.Computed.{degree}
-use Rattle.poly.proofs.Sum.{sum-div, sum-mod, Sum-self, sum-zero_eq, on_digit}
+use Rattle.poly.proofs.Sum.{sum-div, sum-mod, sum_self, sum-zero_eq, on_digit}
 use Rattle.poly.proofs.Degree.{degree_top, degree_of_lem}
 
 -- one or the other
@@ -73,7 +73,7 @@ pub coefficients_same : (p q : ℕ) → ((i : ℕ) → coefficient p i ≡ coeff
 coefficients_same p q h =
     sum-zero_eq
     (coefficients_none (sum p q) λ i.
-    coefficient-sum p q i ∙ ap (λ (x : ℕ). sum x (coefficient q i)) (h i) ∙ Sum-self (coefficient q i))
+    coefficient-sum p q i ∙ ap (λ (x : ℕ). sum x (coefficient q i)) (h i) ∙ sum_self (coefficient q i))
 
 -- ---- the places of x^j, and of x^j + x^k
 

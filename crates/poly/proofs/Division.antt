@@ -11,7 +11,7 @@ use lib.Pow.{pow_pos}
 use Rattle.poly.specs.Poly.{sum, times, Degree, Lower, Divided, Remainder, Divides}
 use Rattle.poly.specs.Shifts.{reduce, low, high}
 use Rattle.poly.proofs.Computed.{degree, bring_down, divide}
-use Rattle.poly.proofs.Sum.{sum-zero, Sum-self, sum_comm, sum_back, sum_cancel, sum-zero_eq, sum_assoc, sum_double, sum-digit, sum_shift, sum_lt, sum-div, sum-laws, on_digit}
+use Rattle.poly.proofs.Sum.{sum-zero, sum_self, sum_comm, sum_back, sum_cancel, sum-zero_eq, sum_assoc, sum_double, sum-digit, sum_shift, sum_lt, sum-div, sum-laws, on_digit}
 use Rattle.poly.proofs.Horner.{horner_step}
 use Rattle.poly.proofs.Times.{times-zero_left, times-sum_left, times_double_left, times_by_digit}
 use Rattle.poly.proofs.Degree.{power_lt, high_zero, degree_top, degree_pos, degree_unique, degree_of_lem, degree-times}
@@ -76,7 +76,7 @@ divided_zero {g} {q} {s} h = lower_multiple {g = g} q (rw (sum-zero_eq {a = time
 
 -- one quotient
 pub quotient_unique : {p g q q' s s' : ℕ} → Divided p g q s → Divided p g q' s' → q ≡ q'
-quotient_unique {p} h k = sum-zero_eq (divided_zero (rw (Sum-self p) at (divided_sum h k)))
+quotient_unique {p} h k = sum-zero_eq (divided_zero (rw (sum_self p) at (divided_sum h k)))
 
 -- one remainder
 pub remainder_unique : {p g s s' : ℕ} → Remainder p g s → Remainder p g s' → s ≡ s'
@@ -113,7 +113,7 @@ divides_remainder {g} h = record { factor = h.quotient; product = h.divided.whol
 
 -- what leaves the same remainder differs by a multiple, and the other way round
 pub remainder_differ : {p q g s : ℕ} → Remainder p g s → Remainder q g s → Divides g (sum p q)
-remainder_differ {s = s} h k = divides_remainder (rw (Sum-self s) at (remainder_sum h k))
+remainder_differ {s = s} h k = divides_remainder (rw (sum_self s) at (remainder_sum h k))
 
 pub remainder_same : {p g s : ℕ} (q : ℕ) → Divides g (sum p q) → Remainder p g s → Remainder q g s
 remainder_same {p} {g} {s} q m h =

@@ -9,7 +9,7 @@ use lib.Dec.{lit<}
 use lib.Pow.{pow_pos, pow_mono}
 use Rattle.poly.specs.Poly.{sum, times, Degree, Remainder, Divides}
 use Rattle.poly.proofs.Computed.{degree}
-use Rattle.poly.proofs.Sum.{sum_comm, Sum-self, sum-zero_eq, sum_shift, sum_shifted, sum-div, sum-mod, on_digit}
+use Rattle.poly.proofs.Sum.{sum_comm, sum_self, sum-zero_eq, sum_shift, sum_shifted, sum-div, sum-mod, on_digit}
 use Rattle.poly.proofs.Times.{times_step, times-sum, times-sum_left, times_double_left, times_power, times_one, times_assoc}
 use Rattle.poly.proofs.Degree.{degree-times, degree_of_lem, power_lt, high_zero}
 use Rattle.poly.proofs.Division.{lower, lower_lt, lower_zero, lower_multiple, divides_lower, remainder_lower, remainder_differ, remainder_same}
@@ -57,12 +57,12 @@ divides_unshift (suc k) p h m = divides_unshift k p h (divides_half (p * 2 ^ k) 
 -- a factor other than 0 can be cancelled
 pub times_cancel : {g : ℕ} (p q : ℕ) → 0 < g → times p g ≡ times q g → p ≡ q
 times_cancel {g} p q h e =
-    sum-zero_eq (lower_multiple {g = g} (sum p q) (rw (times-sum_left, e, Sum-self) (lower_zero h)))
+    sum-zero_eq (lower_multiple {g = g} (sum p q) (rw (times-sum_left, e, sum_self) (lower_zero h)))
 
 -- two multiples that agree from g's degree on are equal: a code word is known by its message
 pub divides_unique : {g d : ℕ} (p q : ℕ) → Degree g d → Divides g p → Divides g q → p / 2 ^ d ≡ q / 2 ^ d → p ≡ q
 divides_unique {g} {d} p q h m n e =
-    sum-zero_eq (divides_lower (divides_sum m n) (lower h (high_zero (sum p q) d (rw (sum-div p q d, e, Sum-self)))))
+    sum-zero_eq (divides_lower (divides_sum m n) (lower h (high_zero (sum p q) d (rw (sum-div p q d, e, sum_self)))))
 
 -- the quotient of a number of k + d digits has k digits
 pub factor_lt : {g d : ℕ} (k q : ℕ) → Degree g d → times q g < 2 ^ (k + d) → q < 2 ^ k
