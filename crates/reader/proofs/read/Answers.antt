@@ -2,7 +2,7 @@
 use mathlib.Core.List.{List, [], ◌∷◌, ◌++◌}
 use mathlib.Core.Logic.{inl, inr}
 use mathlib.Core.Path.{◌≡◌, refl}
-use Prim.Native.Nat.{ℕ, ◌+◌, ◌-◌, ◌<◌}
+use Prim.Native.Nat.{ℕ, suc, ◌+◌, ◌-◌, ◌<◌}
 use Rattle.poly.specs.Poly.{Degree}
 use Rattle.poly.specs.Cells.{Cells, poly}
 use Rattle.verdict.specs.Verdict.{Check, Verdict, Passed, Where}
@@ -11,7 +11,8 @@ use Rattle.cells.specs.Lent.{cells_check}
 use Rattle.cells.proofs.Lent.{first_bad_cells, first_bad_none}
 use Rattle.codes.specs.Code.{MessageLength}
 use Rattle.codes.specs.Mending.{rule_checks}
-use Rattle.codes.specs.Calls.{slices_check, readable_check}
+use Rattle.codes.specs.Coding.{First}
+use Rattle.codes.specs.Calls.{DecodesCells, slices_check, readable_check}
 use Rattle.codes.proofs.Checking.{allowed_of, generator_r, message_room, message_length}
 use Rattle.reader.proofs.Form.{found_degree, fresh_own}
 use Rattle.reader.proofs.Run.{reached_own}
@@ -25,9 +26,12 @@ later : (n g rule : ℕ) (message word : List ℕ) → List Check
 later n g rule message word = slices_check n g message word ∷ cells_check word ∷ readable_check n g rule (poly word) ∷ []
 
 -- where the checks of the start passed, the others decide
-decided : (n g rule : ℕ) (message word : List ℕ) (m : ℕ) → Passed (rule_checks n g rule) → Verdict (later n g rule message word) m
-    → Verdict (rule_checks n g rule ++ later n g rule message word) m
-decided n g rule message word m code = verdict_on (rule_checks n g rule) (later n g rule message word) m code
+refused : (n g rule : ℕ) (message word : List ℕ) {m : ℕ} → Passed (rule_checks n g rule) → Verdict (later n g rule message word) (suc m)
+    → DecodesCells First n g rule word message message (suc m) 0
+unfolding later
+refused n g rule message word {m} code v =
+    settles_refused (rule_checks n g rule ++ later n g rule message word) tt (verdict_on (rule_checks n g rule) (later n g rule message word) (suc m) code v)
+    (refl, refl)
 
 -- the generator's degree is below the length
 below : {n g rule r : ℕ} → Passed (rule_checks n g rule) → Where (0 < g) (Degree g r) (r ≡ 0) → r < n
@@ -55,29 +59,26 @@ unfolding later
 returns-then-message-n c =
     let a = c.args in
     let code = verdict_passed (rule_checks c.args.n c.args.g c.args.rule) tt c.start-started.ensures.verdict c.if-number-ne0.false in
-    settles_refused (rule_checks a.n a.g a.rule ++ later a.n a.g a.rule a.message.now a.word.now) tt
-    (decided a.n a.g a.rule a.message.now a.word.now 6 code
-    (inl (λ m. c.if-message-n.true (message_length (found_degree code c.degree_of.ensures) m.0), refl))) (refl, refl)
+    refused a.n a.g a.rule a.message.now a.word.now code
+    (inl (λ m. c.if-message-n.true (message_length (found_degree code c.degree_of.ensures) m.0), refl))
 
 pub returns-then-word-n : goal.returns-then-word-n
 unfolding later
 returns-then-word-n c =
     let a = c.args in
     let code = verdict_passed (rule_checks c.args.n c.args.g c.args.rule) tt c.start-started.ensures.verdict c.if-number-ne0.false in
-    settles_refused (rule_checks a.n a.g a.rule ++ later a.n a.g a.rule a.message.now a.word.now) tt
-    (decided a.n a.g a.rule a.message.now a.word.now 6 code (inl (λ m. c.if-word-n.true m.1, refl))) (refl, refl)
+    refused a.n a.g a.rule a.message.now a.word.now code (inl (λ m. c.if-word-n.true m.1, refl))
 
 pub returns-then-first_bad-n : goal.returns-then-first_bad-n
 unfolding later
 returns-then-first_bad-n c =
     let a = c.args in
     let code = verdict_passed (rule_checks c.args.n c.args.g c.args.rule) tt c.start-started.ensures.verdict c.if-number-ne0.false in
-    settles_refused (rule_checks a.n a.g a.rule ++ later a.n a.g a.rule a.message.now a.word.now) tt
-    (decided a.n a.g a.rule a.message.now a.word.now 7 code
+    refused a.n a.g a.rule a.message.now a.word.now code
     (inr (
       (room code c.degree_of.ensures c.if-message-n.false, c.if-word-n.false),
       inl (first_bad_none c.first_bad.ensures (omega (arith, c.if-first_bad-n.true, c.if-word-n.false)), refl),
-    ))) (refl, refl)
+    ))
 
 pub through-last-requires : goal.through-last-requires
 through-last-requires c =

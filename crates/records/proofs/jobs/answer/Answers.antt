@@ -34,75 +34,53 @@ family k cells generator least most degree =
 -- what a job answers is what the record gives
 given : (letter k rule spare word : ℕ) (job : Job) {ns : List ℕ} {number count value : ℕ} → ns ≡ lengths → 1 ≤ k → k ≤ 12 → spare ≡ 0
     → letter ≡ letter_of job → Answered job (get_or ns (k - 1) 0) (get_or generators (k - 1) 0) rule word number count value
-    → (station : ℕ) → Gives (fields letter k rule spare station word) number count value
-given letter k rule spare word job cells least most blank is a station =
-    gives_job (fields letter k rule spare station word) job is least most blank
-    (rw (within 0 lengths k least, within 0 generators k least) (rw (ap (λ (t : List ℕ). get_or t (k - 1) 0) cells) at a))
+    → record { digits : (number < 10) × (count < 10); gives : (station : ℕ) → Gives (fields letter k rule spare station word) number count value }
+given letter k rule spare word job cells least most blank is a = record {
+  digits = a.digits;
+  gives = λ station.
+      gives_job (fields letter k rule spare station word) job is least most blank
+      (rw (within 0 lengths k least, within 0 generators k least) (rw (ap (λ (t : List ℕ). get_or t (k - 1) 0) cells) at a));
+}
 
 pub systematic-requires : goal.systematic-requires
 systematic-requires c = (c.requires.2, family c.args.family c.requires.0 c.requires.1 (omega arith) c.if-family-gt12.false c.degree_of-r.ensures)
 
 pub returns-then-letter-eq69 : goal.returns-then-letter-eq69
 returns-then-letter-eq69 c =
-    let answered = c.systematic.ensures in
-    record {
-      digits = answered.digits;
-      gives =
-          given c.args.letter c.args.family c.args.rule c.args.spare c.args.word E c.requires.0 (omega arith) c.if-family-gt12.false c.if-spare-ne0.false
-          c.if-letter-eq69.true answered;
-    }
+    given c.args.letter c.args.family c.args.rule c.args.spare c.args.word E c.requires.0 (omega arith) c.if-family-gt12.false c.if-spare-ne0.false
+    c.if-letter-eq69.true c.systematic.ensures
 
 pub times-requires : goal.times-requires
 times-requires c = (family c.args.family c.requires.0 c.requires.1 (omega arith) c.if-family-gt12.false c.degree_of-r.ensures, ap (λ (t : List ℕ). get_or t (c.args.family - 1) 0) c.requires.1)
 
 pub returns-then-letter-eq80 : goal.returns-then-letter-eq80
 returns-then-letter-eq80 c =
-    let answered = rw (ap (λ (t : List ℕ). get_or t (c.args.family - 1) 0) c.requires.1) at c.times.ensures in
-    record {
-      digits = answered.digits;
-      gives =
-          given c.args.letter c.args.family c.args.rule c.args.spare c.args.word P c.requires.0 (omega arith) c.if-family-gt12.false c.if-spare-ne0.false
-          c.if-letter-eq80.true answered;
-    }
+    given c.args.letter c.args.family c.args.rule c.args.spare c.args.word P c.requires.0 (omega arith) c.if-family-gt12.false c.if-spare-ne0.false
+    c.if-letter-eq80.true (rw (ap (λ (t : List ℕ). get_or t (c.args.family - 1) 0) c.requires.1) at c.times.ensures)
 
 pub remainder-requires : goal.remainder-requires
 remainder-requires c = (c.requires.2, family c.args.family c.requires.0 c.requires.1 (omega arith) c.if-family-gt12.false c.degree_of-r.ensures)
 
 pub returns-then-letter-eq83 : goal.returns-then-letter-eq83
 returns-then-letter-eq83 c =
-    let answered = c.remainder.ensures in
-    record {
-      digits = answered.digits;
-      gives =
-          given c.args.letter c.args.family c.args.rule c.args.spare c.args.word S c.requires.0 (omega arith) c.if-family-gt12.false c.if-spare-ne0.false
-          c.if-letter-eq83.true answered;
-    }
+    given c.args.letter c.args.family c.args.rule c.args.spare c.args.word S c.requires.0 (omega arith) c.if-family-gt12.false c.if-spare-ne0.false
+    c.if-letter-eq83.true c.remainder.ensures
 
 pub first-requires : goal.first-requires
 first-requires c = (c.requires.2, c.requires.3, family c.args.family c.requires.0 c.requires.1 (omega arith) c.if-family-gt12.false c.degree_of-r.ensures)
 
 pub returns-then-letter-eq68 : goal.returns-then-letter-eq68
 returns-then-letter-eq68 c =
-    let answered = c.first.ensures in
-    record {
-      digits = answered.digits;
-      gives =
-          given c.args.letter c.args.family c.args.rule c.args.spare c.args.word D c.requires.0 (omega arith) c.if-family-gt12.false c.if-spare-ne0.false
-          c.if-letter-eq68.true answered;
-    }
+    given c.args.letter c.args.family c.args.rule c.args.spare c.args.word D c.requires.0 (omega arith) c.if-family-gt12.false c.if-spare-ne0.false
+    c.if-letter-eq68.true c.first.ensures
 
 pub quotient-requires : goal.quotient-requires
 quotient-requires c = (c.requires.2, c.requires.3, family c.args.family c.requires.0 c.requires.1 (omega arith) c.if-family-gt12.false c.degree_of-r.ensures)
 
 pub returns-then-letter-eq81 : goal.returns-then-letter-eq81
 returns-then-letter-eq81 c =
-    let answered = c.quotient.ensures in
-    record {
-      digits = answered.digits;
-      gives =
-          given c.args.letter c.args.family c.args.rule c.args.spare c.args.word Q c.requires.0 (omega arith) c.if-family-gt12.false c.if-spare-ne0.false
-          c.if-letter-eq81.true answered;
-    }
+    given c.args.letter c.args.family c.args.rule c.args.spare c.args.word Q c.requires.0 (omega arith) c.if-family-gt12.false c.if-spare-ne0.false
+    c.if-letter-eq81.true c.quotient.ensures
 
 pub returns : goal.returns
 returns c =
