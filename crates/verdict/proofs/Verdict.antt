@@ -1,6 +1,6 @@
 -- Two numbers that one list of checks gives are equal, and 0 is given exactly if every check passes.
 -- Assumes nothing.
-use mathlib.Core.Path.{◌≡◌, refl, sym, ◌∙◌}
+use mathlib.Core.Path.{◌≡◌, refl, sym, ap, ◌∙◌}
 use mathlib.Core.Bool.{Bool, true, false, cond, true≢false}
 use mathlib.Core.List.{List, [], ◌∷◌, ◌++◌}
 use mathlib.Core.Logic.{◌⊎◌, inl, inr}
@@ -9,6 +9,11 @@ use native.Mathlib.Decide.{ℕ_discrete}
 use native.Mathlib.Nat.{eq-zero-or-pos}
 use native.Mathlib.Omega.{arith}
 use lib.Dec.{T, eqb, eqb→eq}
+use Rattle.std.specs.Prelude.{Result, Ok, Err}
+use Rattle.std.specs.Result.{IsErrAnd}
+use Rattle.verdict.specs.Refusal.{number_of}
+use Rattle.verdict.specs.declared.Refusal.{Refusal}
+use Rattle.verdict.specs.declared.Refusal.TheVariants.{Length, Generator, NotCyclic, Rule, NotCarried, Lent, Cell, Unreadable, Record, Differ, Form}
 use Rattle.verdict.specs.Verdict.{Check, Verdict, Passed, Settles, Tells, Where, order, among}
 
 -- a list of checks gives one number
@@ -171,3 +176,27 @@ where_settled {A} {x} {y} h f = go (ℕ_discrete x y)
 -- so a call that gives a value where A holds, and another where it doesn't, gives one number
 pub where_value : {A : Type 0} {value other x y : ℕ} → Where A (x ≡ value) (x ≡ other) → Where A (y ≡ value) (y ≡ other) → x ≡ y
 where_value a b = where_settled (λ h. a.holds h ∙ sym (b.holds h)) (λ f. a.fails f ∙ sym (b.fails f))
+
+-- ---- refusals
+
+-- no refusal has number 0
+pub number_of_pos : (e : Refusal) → 0 < number_of e
+number_of_pos Length = omega arith
+number_of_pos Generator = omega arith
+number_of_pos NotCyclic = omega arith
+number_of_pos Rule = omega arith
+number_of_pos NotCarried = omega arith
+number_of_pos Lent = omega arith
+number_of_pos Cell = omega arith
+number_of_pos Unreadable = omega arith
+number_of_pos Record = omega arith
+number_of_pos Differ = omega arith
+number_of_pos Form = omega arith
+
+pub number_of_nonzero : (e : Refusal) → number_of e ≡ 0 → ⊥
+number_of_nonzero e z = omega (arith, number_of_pos e, z)
+
+-- what `?` hands back is the refusal that it met
+pub refused_as : {A : Type 0} {e : Refusal} (r : Result A Refusal) → IsErrAnd r (λ y. y ≡ e) → r ≡ Err e
+refused_as (Err y) h = ap Err h
+refused_as (Ok x) h = absurd h
