@@ -10,31 +10,19 @@ ghost use Rattle.cells.specs.Lent.{FirstBad};
 pub fn first_bad(word: &[u8]) -> usize
     ensures { FirstBad word.now result }
 {
-    let mut i: usize = 0;
-    while i < word.len() {
-        if 1 < word[i] {
-            return i;
-        }
-        i += 1;
-    }
-    i
+    word.iter().position(|&c| 1 < c).unwrap_or(word.len())
 }
 
 // The number that at most 63 cells stand for; 0 where there are more, or where one is not 0 or 1.
 pub fn number_of(word: &[u8]) -> u64
     ensures { Where ((length word.now ≤ 63) × Cells word.now) (result ≡ poly word.now) (result ≡ 0) }
 {
-    if 63 < word.len() {
-        return 0;
-    }
-    if first_bad(word) < word.len() {
+    if 63 < word.len() || first_bad(word) < word.len() {
         return 0;
     }
     let mut p: u64 = 0;
-    let mut i: usize = 0;
-    while i < word.len() {
-        p = p * 2 + (word[i] as u64);
-        i += 1;
+    for &c in word {
+        p = p * 2 + (c as u64);
     }
     p
 }
@@ -44,9 +32,7 @@ pub fn write_number(word: &mut [u8], p: u64)
     ensures { word.new ≡ cells (length word.old) p }
 {
     let mut rest = p;
-    let mut i = word.len();
-    while 0 < i {
-        i -= 1;
+    for i in (0..word.len()).rev() {
         word[i] = (rest % 2) as u8;
         rest = rest / 2;
     }

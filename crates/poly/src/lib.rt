@@ -20,19 +20,7 @@ pub fn degree_of(p: u64) -> usize
 fn ready(r: usize, g: u64, s: u64, c: u64) -> bool
     ensures { Tells (Ready r g s c) result }
 {
-    if 32 < r {
-        return false;
-    }
-    if g >> r != 1 {
-        return false;
-    }
-    if s >> r != 0 {
-        return false;
-    }
-    if 1 < c {
-        return false;
-    }
-    true
+    r <= 32 && g >> r == 1 && s >> r == 0 && c <= 1
 }
 
 // t less g, where t has reached g's degree r.
@@ -69,9 +57,7 @@ fn long_division(p: u64, g: u64, r: usize) -> Parts
 {
     let mut q: u64 = 0;
     let mut s: u64 = 0;
-    let mut i: usize = 64 - (u64::leading_zeros(p) as usize);
-    while 0 < i {
-        i -= 1;
+    for i in (0..64 - (u64::leading_zeros(p) as usize)).rev() {
         let t = s * 2 + (p >> i) % 2;
         let f = t >> r;
         q = q * 2 + f;
@@ -87,14 +73,8 @@ fn long_division(p: u64, g: u64, r: usize) -> Parts
 pub fn divide_number(p: u64, g: u64) -> Parts
     ensures { Where ((0 < g) × (g < 2 ^ 33)) (Divided p g result.quotient result.remainder) ((result.quotient ≡ 0) × (result.remainder ≡ 0)) }
 {
-    if g == 0 {
-        return Parts {
-            quotient: 0,
-            remainder: 0,
-        };
-    }
     let r = degree_of(g);
-    if 32 < r {
+    if g == 0 || 32 < r {
         return Parts {
             quotient: 0,
             remainder: 0,
@@ -120,9 +100,7 @@ fn long_product(p: u64, q: u64, d: usize, e: usize) -> u64
     ensures { result ≡ times p q }
 {
     let mut t: u64 = 0;
-    let mut i: usize = d + 1;
-    while 0 < i {
-        i -= 1;
+    for i in (0..d + 1).rev() {
         t = digit_times(t, (p >> i) % 2, q);
     }
     t
@@ -132,10 +110,7 @@ fn long_product(p: u64, q: u64, d: usize, e: usize) -> u64
 pub fn times_number(p: u64, q: u64) -> u64
     ensures { Where (times p q < 2 ^ 64) (result ≡ times p q) (result ≡ 0) }
 {
-    if p == 0 {
-        return 0;
-    }
-    if q == 0 {
+    if p == 0 || q == 0 {
         return 0;
     }
     let d = degree_of(p);

@@ -1,13 +1,10 @@
 -- The cells from place i on are the low digits of p, and what is left of p are the digits above them.
 use mathlib.Core.Path.{◌≡◌}
-use Prim.Native.Nat.{◌-◌, ◌/◌, ◌^◌, ◌≤◌}
+use Prim.Native.Nat.{◌-◌, ◌/◌, ◌^◌}
 use lib.ListN.{length, drop}
 use Rattle.poly.specs.Cells.{cells}
 use Rattle.cells.proofs.write_number.Given as goal
 
 abbrev pub invariant-loop-i : goal.invariant-loop-i
 invariant-loop-i l =
-    (l.i ≤ length l.initial.word) × (length l.word ≡ length l.initial.word) × (drop l.i l.word ≡ cells (length l.initial.word - l.i) l.p) × (l.rest ≡ l.p / 2 ^ (length l.initial.word - l.i))
-
-abbrev pub decreases-loop-i : goal.decreases-loop-i
-decreases-loop-i l = l.i
+    (drop l.i l.word ≡ cells (length l.initial.word - l.i) l.p) × (l.rest ≡ l.p / 2 ^ (length l.initial.word - l.i))

@@ -5,6 +5,3 @@ use Rattle.poly.proofs.long_division.Given as goal
 
 abbrev pub invariant-loop-i : goal.invariant-loop-i
 invariant-loop-i l = (l.i ≤ 64) × (l.q < 2 ^ (64 - l.i)) × Divided (l.p / 2 ^ l.i) l.g l.q l.s
-
-abbrev pub decreases-loop-i : goal.decreases-loop-i
-decreases-loop-i l = l.i

@@ -1,6 +1,5 @@
-use mathlib.Core.Path.{◌≡◌, sym, ◌∙◌}
+use mathlib.Core.Path.{sym, ◌∙◌}
 use Prim.Native.Nat.{◌-◌}
-use native.Mathlib.Nat.{div-one}
 use native.Mathlib.Omega.{arith}
 use Rattle.poly.proofs.Coefficient.{coefficient_lt}
 use Rattle.poly.proofs.Products.{product_none, product_lt, product_next}
@@ -20,9 +19,3 @@ loop-i-preserved c =
     let l = c.loop-i in
     let a = c.args in
     (omega arith, c.digit_times-t.ensures ∙ rw l.invariant.1 (product_next a.p a.q l.i (omega arith)))
-
-pub returns : goal.returns
-returns c =
-    let l = c.loop-i in
-    let zero : l.i ≡ 0 = omega arith in
-    rw (zero, div-one) at l.invariant.1

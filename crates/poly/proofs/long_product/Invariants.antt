@@ -6,6 +6,3 @@ use Rattle.poly.proofs.long_product.Given as goal
 
 abbrev pub invariant-loop-i : goal.invariant-loop-i
 invariant-loop-i l = (l.i ≤ suc l.d) × (l.t ≡ times (l.p / 2 ^ l.i) l.q)
-
-abbrev pub decreases-loop-i : goal.decreases-loop-i
-decreases-loop-i l = l.i

@@ -1,20 +1,24 @@
 -- The degrees of the factors add up to that of the product, so they tell whether it has at most 64 digits.
-use mathlib.Core.Path.{refl}
+use mathlib.Core.Path.{◌≡◌, refl}
+use mathlib.Core.Logic.{◌⊎◌, inl, inr}
+use Prim.Native.Nat.{ℕ}
 use native.Mathlib.Omega.{arith}
 use borrow.Author.Rules.{rules}
 use Rattle.verdict.proofs.Verdict.{where_holds, where_fails}
-use Rattle.poly.specs.Poly.{Degree}
+use Rattle.poly.specs.Poly.{times, Degree}
 use Rattle.poly.proofs.Times.{times-zero_left, times_zero}
 use Rattle.poly.proofs.Degree.{power_lt}
-use Rattle.poly.proofs.Products.{product_large, product_small}
+use Rattle.poly.proofs.Products.{product_large}
 use Rattle.poly.proofs.times_number.Goals as goal
 use Rattle.poly.proofs.times_number.Goals.{After-degree_of-e}
 
-pub returns-then-p-eq0 : goal.returns-then-p-eq0
-returns-then-p-eq0 c = let q = c.args.q in rw (c.if-p-eq0.true, times-zero_left q) (where_holds (omega arith) refl)
+-- a factor 0 makes the product 0
+no_factor : (p q : ℕ) → (p ≡ 0) ⊎ ((p ≡ 0 → ⊥) × (q ≡ 0)) → times p q ≡ 0
+no_factor p q (inl e) = rw e (times-zero_left q)
+no_factor p q (inr e) = rw e.1 (times_zero p)
 
-pub returns-then-q-eq0 : goal.returns-then-q-eq0
-returns-then-q-eq0 c = let p = c.args.p in rw (c.if-q-eq0.true, times_zero p) (where_holds (omega arith) refl)
+pub returns-then-p-eq0 : goal.returns-then-p-eq0
+returns-then-p-eq0 c = rw (no_factor c.args.p c.args.q c.then-p-eq0.either) (where_holds (omega arith) refl)
 
 -- the degrees of the two factors
 first : (c : After-degree_of-e) → Degree c.args.p c.degree_of-d.result
@@ -29,9 +33,3 @@ overflow_add-d c =
 
 pub returns-then-d-e-gt63 : goal.returns-then-d-e-gt63
 returns-then-d-e-gt63 c = where_fails (product_large (first c.before) (second c.before) (omega arith)) refl
-
-pub long_product-requires : goal.long_product-requires
-long_product-requires c = ((first c.before).below, (second c.before).below, omega arith)
-
-pub returns : goal.returns
-returns c = where_holds (product_small (first c.before.before) (second c.before.before) (omega arith)) c.long_product.ensures
