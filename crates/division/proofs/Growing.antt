@@ -1,7 +1,6 @@
 -- One cell more of a dividend: what the register held before and holds after, and the cell that the quotient takes.
 -- Assumes nothing.
 use mathlib.Core.Path.{◌≡◌, refl, sym, ap, ◌∙◌}
-use mathlib.Core.Bool.{Bool, true, false}
 use mathlib.Core.List.{List, [], ◌∷◌, ◌++◌}
 use Prim.Native.Nat.{ℕ, zero, suc, ◌+◌, ◌-◌, ◌*◌, ◌/◌, ◌^◌, ◌≤◌, ◌<◌}
 use native.Mathlib.Nat.{zero-mul, mod-eq_of_lt}
@@ -11,14 +10,14 @@ use lib.ListN.{length, get_or, take, set, length-append}
 use lib.Seq.{take-suc, take-suc-set}
 use Rattle.poly.specs.Poly.{coefficient, Degree, Lower, Remainder}
 use Rattle.poly.specs.Cells.{Cells, poly}
-use Rattle.poly.specs.Shifts.{Ready, low}
+use Rattle.poly.specs.Shifts.{Ready, low, high}
 use Rattle.poly.proofs.Cells.{cells-append, poly_snoc}
 use Rattle.poly.proofs.Coefficient.{coefficient_lt, div-suc}
 use Rattle.poly.proofs.Degree.{degree_unique}
 use Rattle.poly.proofs.Division.{lower_lt, top_digit, remainder_high_lem}
-use Rattle.poly.proofs.Words.{divided_empty, divided_snoc, remainder_empty, remainder_snoc}
+use Rattle.poly.proofs.Words.{divided_empty, divided_snoc, remainder_empty}
 use Rattle.division.specs.Division.{Quotient, HighSide}
-use Rattle.division.specs.Within.{Fit, Side, shift_at}
+use Rattle.division.specs.Within.{Fit}
 
 -- one cell more is a cell
 cells_snoc : (w : List ℕ) (c : ℕ) → Cells w → c < 2 → Cells (w ++ (c ∷ []))
@@ -32,11 +31,6 @@ cells_snoc w c h b = cells-append w (c ∷ []) h one
 pub quotient_remainder : {w q : List ℕ} {g s : ℕ} → Quotient w g q s → Remainder (poly w) g s
 quotient_remainder {q = q} v = record { quotient = poly q; divided = v.divided }
 
--- what the register holds is of lower degree than g
-pub side_lower : (b : Bool) (w : List ℕ) {g : ℕ} (s : ℕ) → Side b w g s → Lower s g
-side_lower true w s v = v.remainder.divided.lower
-side_lower false w s v = v.divided.lower
-
 module _ {g r : ℕ} (h : Degree g r) where
   -- what the remainder of x^r times the dividend is, with the degree at hand
   pub high_remainder : {w : List ℕ} {s : ℕ} → HighSide w g s → Remainder (poly w * 2 ^ r) g s
@@ -47,16 +41,17 @@ module _ {g r : ℕ} (h : Degree g r) where
   pub quotient_empty : Quotient [] g [] 0
   quotient_empty = record { long = refl; cells = λ i. lit< tt; divided = divided_empty h }
 
-  pub side_empty : (b : Bool) → Side b [] g 0
+  pub empty_times : (k : ℕ) → Remainder (poly [] * k) g 0
   unfolding poly
-  side_empty true = record { r = r; degree = h; remainder = rw (zero-mul (2 ^ r)) (remainder_empty h) }
-  side_empty false = remainder_empty h
+  empty_times k = rw (zero-mul k) (remainder_empty h)
+
+  pub high_empty : HighSide [] g 0
+  high_empty = record { r = r; degree = h; remainder = empty_times (2 ^ r) }
 
   -- ---- and after one cell more
 
-  pub side_snoc : (b : Bool) (w : List ℕ) (s c : ℕ) → c < 2 → Side b w g s → Side b (w ++ (c ∷ [])) g (shift_at b r g s c)
-  side_snoc true w s c k v = record { r = r; degree = h; remainder = rw poly_snoc (remainder_high_lem (poly w) c k h (high_remainder v)) }
-  side_snoc false w s c k v = remainder_snoc h w c k v
+  pub high_snoc : (w : List ℕ) {s : ℕ} (c : ℕ) → c < 2 → HighSide w g s → HighSide (w ++ (c ∷ [])) g (high r g s c)
+  high_snoc w c k v = record { r = r; degree = h; remainder = rw poly_snoc (remainder_high_lem (poly w) c k h (high_remainder v)) }
 
   module _ (least : 1 ≤ r) where
     -- the output is the top stage, whatever comes in
@@ -81,9 +76,6 @@ module _ {w : List ℕ} {g r : ℕ} (f : Fit w g r) (i : ℕ) where
   fit_ready l = record { degree = f.degree; most = f.most; register = lower_lt f.degree l; input = f.cells i }
 
   module _ (b : i < length w) where
-    pub side_next : (high : Bool) (s : ℕ) → Side high (take i w) g s → Side high (take (suc i) w) g (shift_at high r g s (get_or w i 0))
-    side_next high s v = rw (take-suc w i 0 b) (side_snoc f.degree high (take i w) s (get_or w i 0) (f.cells i) v)
-
     pub quotient_next : (q : List ℕ) {s : ℕ} → length q ≡ length w → Quotient (take i w) g (take i q) s
         → Quotient (take (suc i) w) g (take (suc i) (set q i (coefficient s (r - 1)))) (low r g s (get_or w i 0))
     quotient_next q {s} e v =

@@ -1,7 +1,6 @@
 -- The register of source 000 gives quotient and remainder: stage by stage, for every divisor and every word.
 -- Assumes nothing.
 use mathlib.Core.Path.{◌≡◌, sym, ap, ◌∙◌}
-use mathlib.Core.Bool.{true}
 use mathlib.Core.List.{List, [], ◌∷◌, ◌++◌, append-nil}
 use Prim.Native.Nat.{ℕ, zero, suc, ◌-◌, ◌^◌, ◌≤◌, ◌<◌}
 use native.Mathlib.Nat.{not-suc-le-zero}
@@ -17,7 +16,7 @@ use Rattle.poly.proofs.Stages.{held_lt, held_at, held_zeros, length-shifted, hel
 use Rattle.poly.proofs.Words.{high_side}
 use Rattle.division.specs.Division.{Quotient, HighSide}
 use Rattle.division.specs.Steps.{low_run, high_run, outputs, zeros, Shown}
-use Rattle.division.proofs.Growing.{quotient_remainder, quotient_empty, quotient_snoc, side_empty, side_snoc, high_remainder}
+use Rattle.division.proofs.Growing.{quotient_remainder, quotient_empty, quotient_snoc, high_empty, high_snoc, high_remainder}
 
 -- zeros are cells
 cells_zeros : (n : ℕ) → Cells (zeros n)
@@ -76,7 +75,7 @@ module _ {g : ℕ} (d : ℕ) (h : Degree g (suc d)) where
       }
 
       after : HighSide (v ++ (c ∷ [])) g (held (high_shift (suc d) g c s))
-      after = rw (held_high d h c (k 0) s a.cells (register_lt a) a.long) (side_snoc h true v (held s) c (k 0) x)
+      after = rw (held_high d h c (k 0) s a.cells (register_lt a) a.long) (high_snoc h v c (k 0) x)
 
   -- both from zero
   from_zero : Register (suc d) (zeros (suc d))
@@ -89,7 +88,7 @@ module _ {g : ℕ} (d : ℕ) (h : Degree g (suc d)) where
   shown : (w : List ℕ) → Cells w → Shown (suc d) g w
   shown w k =
       let lo = low_end (w ++ zeros (suc d)) (cells-append w (zeros (suc d)) k (cells_zeros (suc d))) in
-      let hi = high_run_lem w [] (zeros (suc d)) k from_zero (rw (held_zeros (suc d)) (side_empty h true)) in
+      let hi = high_run_lem w [] (zeros (suc d)) k from_zero (rw (held_zeros (suc d)) (high_empty h)) in
       let high = high_remainder h hi.1 in
       record {
         low = (low_end w k).1;

@@ -4,7 +4,6 @@ use Rattle.poly.specs.Poly.{Degree, Divided, Remainder}
 use Rattle.poly.specs.Cells.{Cells, poly}
 use Rattle.verdict.specs.Verdict.{Check, Settles}
 use Rattle.cells.specs.Lent.{cells_check}
-use Rattle.division.specs.declared.Outcome.{Outcome}
 
 -- 1 unless the dividend has 0 to 4,096 cells.
 abbrev pub dividend_check : List ℕ → Check
@@ -36,18 +35,18 @@ pub record HighSide (w : List ℕ) (g s : ℕ) : Type 0 where
   pub degree : Degree g r
   pub remainder : Remainder (poly w * 2 ^ r) g s
 
--- What `divide` hands back, with the lent quotient before and after.
-abbrev pub DividesCells : List ℕ → ℕ → List ℕ → List ℕ → Outcome → Type 0
-DividesCells w g q q' x =
-    Settles (dividend_check w ∷ divisor_check g ∷ quotient_check w q ∷ cells_check w ∷ []) x.number (Quotient w g q' x.remainder)
-    ((q' ≡ q) × (x.remainder ≡ 0))
+-- What `divide` hands back, a number and the remainder, with the lent quotient before and after.
+abbrev pub DividesCells : List ℕ → ℕ → List ℕ → List ℕ → ℕ → ℕ → Type 0
+DividesCells w g q q' number remainder =
+    Settles (dividend_check w ∷ divisor_check g ∷ quotient_check w q ∷ cells_check w ∷ []) number (Quotient w g q' remainder)
+    ((q' ≡ q) × (remainder ≡ 0))
 
 -- What `remainder_low` hands back.
-abbrev pub LeavesLow : List ℕ → ℕ → Outcome → Type 0
-LeavesLow w g x =
-    Settles (dividend_check w ∷ divisor_check g ∷ cells_check w ∷ []) x.number (Remainder (poly w) g x.remainder) (x.remainder ≡ 0)
+abbrev pub LeavesLow : List ℕ → ℕ → ℕ → ℕ → Type 0
+LeavesLow w g number remainder =
+    Settles (dividend_check w ∷ divisor_check g ∷ cells_check w ∷ []) number (Remainder (poly w) g remainder) (remainder ≡ 0)
 
 -- What `remainder_high` hands back.
-abbrev pub LeavesHigh : List ℕ → ℕ → Outcome → Type 0
-LeavesHigh w g x =
-    Settles (dividend_check w ∷ divisor_check g ∷ cells_check w ∷ []) x.number (HighSide w g x.remainder) (x.remainder ≡ 0)
+abbrev pub LeavesHigh : List ℕ → ℕ → ℕ → ℕ → Type 0
+LeavesHigh w g number remainder =
+    Settles (dividend_check w ∷ divisor_check g ∷ cells_check w ∷ []) number (HighSide w g remainder) (remainder ≡ 0)

@@ -1,71 +1,75 @@
 // Plain division of lent cells: quotient and remainder, and the remainders of the register's two sides.
 #![tactic(auto)]
 
-ghost use Rattle.std.specs.Prelude.{◌≡◌, length};
+ghost use Rattle.std.specs.Prelude.{◌≡◌, ℕ, ◌+◌, ◌*◌, ◌^◌, length, IfOk};
+ghost use Rattle.poly.specs.Poly.{Remainder};
+ghost use Rattle.poly.specs.Cells.{poly};
 ghost use Rattle.poly.specs.Shifts.{Ready};
 ghost use Rattle.verdict.specs.Verdict.{Verdict};
+ghost use Rattle.verdict.specs.Refusal.{number, value};
 ghost use Rattle.division.specs.Division.{Quotient, DividesCells, LeavesLow, LeavesHigh};
-ghost use Rattle.division.specs.Within.{Stages, checks, Fit, Side, shift_at, Leaves};
+ghost use Rattle.division.specs.Within.{checks, Fit};
 
-#[repr(C)]
-#[derive(Clone, Copy)]
-pub struct Outcome {
-    pub number: u64,
-    pub remainder: u64,
-}
+use verdict::Refusal;
 
-// The degree of a divisor that is allowed, else 0.
-fn stages_of(divisor: u64) -> usize
-    ensures { Stages divisor result }
+// The degree of the divisor, where a call with so many cells lent for a quotient is allowed.
+fn stages(dividend: &[u8], divisor: u64, lent: usize) -> Result<usize, Refusal>
+    ensures checked { Verdict (checks dividend.now divisor lent) (number result) }
+    ensures fit { IfOk result (λ r. Fit dividend.now divisor r × (lent ≡ length dividend.now)) }
 {
     let r = poly::degree_of(divisor);
-    if 32 < r {
-        return 0;
-    }
-    r
-}
-
-// The number that the checks give, where a quotient of so many cells is lent.
-fn first_number(dividend: &[u8], divisor: u64, lent: usize) -> u64
-    ensures { Verdict (checks dividend.now divisor lent) result }
-{
     if 4096 < dividend.len() {
-        return 1;
+        Err(Refusal::Length)
+    } else if r == 0 || 32 < r {
+        Err(Refusal::Generator)
+    } else if lent != dividend.len() {
+        Err(Refusal::Lent)
+    } else if cells::first_bad(dividend) < dividend.len() {
+        Err(Refusal::Cell)
+    } else {
+        Ok(r)
     }
-    if stages_of(divisor) == 0 {
-        return 2;
-    }
-    if lent != dividend.len() {
-        return 6;
-    }
-    if cells::first_bad(dividend) < dividend.len() {
-        return 7;
-    }
-    0
 }
 
-// One shift of the register, with input at the high side or at the low side. At the high side the feedback is the top stage plus the input.
-fn shift(high: bool, r: usize, g: u64, s: u64, c: u64) -> u64
-    requires { Ready r g s c }
-    ensures { result ≡ shift_at high r g s c }
-{
-    if high {
+// The side at which cells come into the register. What it holds after cells is the remainder of their polynomial times `factor`.
+trait Side {
+    ghost factor: { ℕ → ℕ };
+
+    fn shift(r: usize, g: u64, s: u64, c: u64) -> u64
+        requires { Ready r g s c }
+        ensures { (p : ℕ) → Remainder (p * factor r) g s → Remainder ((p * 2 + c) * factor r) g result };
+}
+
+struct Low;
+
+impl Side for Low {
+    ghost factor = { λ r. 1 };
+
+    fn shift(r: usize, g: u64, s: u64, c: u64) -> u64 {
+        poly::low_shift(r, g, s, c)
+    }
+}
+
+struct High;
+
+impl Side for High {
+    ghost factor = { λ r. 2 ^ r };
+
+    // The feedback is the top stage plus the input.
+    fn shift(r: usize, g: u64, s: u64, c: u64) -> u64 {
         let t = (s * 2) ^ (c << r);
-        return t ^ ((t >> r) * g);
+        t ^ ((t >> r) * g)
     }
-    poly::low_shift(r, g, s, c)
 }
 
-// The register after all cells, with input at the high side or at the low side.
-fn run(dividend: &[u8], g: u64, r: usize, high: bool) -> u64
+// The register after all cells.
+fn run<S: Side>(dividend: &[u8], g: u64, r: usize) -> u64
     requires { Fit dividend.now g r }
-    ensures { Side high dividend.now g result }
+    ensures { Remainder (poly dividend.now * S.factor r) g result }
 {
     let mut s: u64 = 0;
-    let mut i: usize = 0;
-    while i < dividend.len() {
-        s = shift(high, r, g, s, dividend[i] as u64);
-        i += 1;
+    for c in dividend {
+        s = S::shift(r, g, s, *c as u64);
     }
     s
 }
@@ -77,63 +81,33 @@ fn run_out(dividend: &[u8], g: u64, r: usize, quotient: &mut [u8]) -> u64
     ensures { Quotient dividend.now g quotient.new result }
 {
     let mut s: u64 = 0;
-    let mut i: usize = 0;
-    while i < dividend.len() {
+    for (i, c) in dividend.iter().enumerate() {
         quotient[i] = ((s >> (r - 1)) % 2) as u8;
-        s = poly::low_shift(r, g, s, dividend[i] as u64);
-        i += 1;
+        s = poly::low_shift(r, g, s, *c as u64);
     }
     s
 }
 
-// A refusal has its number and no remainder.
-fn refused(m: u64) -> Outcome
-    ensures { (result.number ≡ m) × (result.remainder ≡ 0) }
-{
-    Outcome {
-        number: m,
-        remainder: 0,
-    }
-}
-
 // Quotient and remainder.
-pub fn divide(dividend: &[u8], divisor: u64, quotient: &mut [u8]) -> Outcome
-    ensures { DividesCells dividend.now divisor quotient.old quotient.new result }
+pub fn divide(dividend: &[u8], divisor: u64, quotient: &mut [u8]) -> Result<u64, Refusal>
+    ensures { DividesCells dividend.now divisor quotient.old quotient.new (number result) (value result) }
 {
-    let m = first_number(dividend, divisor, quotient.len());
-    if m != 0 {
-        return refused(m);
-    }
-    Outcome {
-        number: 0,
-        remainder: run_out(dividend, divisor, stages_of(divisor), quotient),
-    }
-}
-
-// The remainder at a side.
-fn remainder_at(dividend: &[u8], divisor: u64, high: bool) -> Outcome
-    ensures { Leaves high dividend.now divisor result }
-{
-    let m = first_number(dividend, divisor, dividend.len());
-    if m != 0 {
-        return refused(m);
-    }
-    Outcome {
-        number: 0,
-        remainder: run(dividend, divisor, stages_of(divisor), high),
-    }
+    let r = stages(dividend, divisor, quotient.len())?;
+    Ok(run_out(dividend, divisor, r, quotient))
 }
 
 // The remainder, by the register with input at the low side.
-pub fn remainder_low(dividend: &[u8], divisor: u64) -> Outcome
-    ensures { LeavesLow dividend.now divisor result }
+pub fn remainder_low(dividend: &[u8], divisor: u64) -> Result<u64, Refusal>
+    ensures { LeavesLow dividend.now divisor (number result) (value result) }
 {
-    remainder_at(dividend, divisor, false)
+    let r = stages(dividend, divisor, dividend.len())?;
+    Ok(run::<Low>(dividend, divisor, r))
 }
 
 // The remainder of x^r times the dividend, by the register with input at the high side.
-pub fn remainder_high(dividend: &[u8], divisor: u64) -> Outcome
-    ensures { LeavesHigh dividend.now divisor result }
+pub fn remainder_high(dividend: &[u8], divisor: u64) -> Result<u64, Refusal>
+    ensures { LeavesHigh dividend.now divisor (number result) (value result) }
 {
-    remainder_at(dividend, divisor, true)
+    let r = stages(dividend, divisor, dividend.len())?;
+    Ok(run::<High>(dividend, divisor, r))
 }
