@@ -1,8 +1,8 @@
 -- What the functions of the checks cite: what follows from the checks, and what they compute.
 -- Assumes nothing.
-use mathlib.Core.Path.{◌≡◌}
+use mathlib.Core.Path.{◌≡◌, refl, subst}
 use mathlib.Core.Bool.{Bool}
-use mathlib.Core.List.{List}
+use mathlib.Core.List.{List, ◌++◌}
 use Prim.Native.Nat.{ℕ, ◌+◌, ◌-◌, ◌*◌, ◌%◌, ◌^◌, ◌≤◌, ◌<◌}
 use native.Mathlib.Decide.{ℕ_discrete}
 use native.Mathlib.Nat.{one-mul, mod-eq_of_lt, lt_of_lt_of_le}
@@ -13,8 +13,8 @@ use lib.Seq.{get_or-set_same, get_or-set_other}
 use Rattle.poly.specs.Poly.{sum, Degree, Divided, Divides}
 use Rattle.poly.proofs.Degree.{degree_pos, degree_unique}
 use Rattle.poly.proofs.Division.{remainder_of, divides_remainder, remainder_divides, remainder_unique}
-use Rattle.verdict.specs.Verdict.{Verdict, Passed, Tells, Where}
-use Rattle.verdict.proofs.Verdict.{verdict_settled, verdict_passed, tells_settled, passed_on, passed_first, passed_last}
+use Rattle.verdict.specs.Verdict.{Check, Verdict, Passed, Tells, Where}
+use Rattle.verdict.proofs.Verdict.{verdict_settled, verdict_passed, tells_settled, verdict_on, passed_on, passed_first, passed_last}
 use Rattle.codes.specs.Code.{Generator, MessageLength, code_checks}
 use Rattle.codes.specs.Mending.{Pattern, Carries, carry_checks, rule_checks}
 use Rattle.codes.specs.Row.{Given}
@@ -55,6 +55,10 @@ code_zero {n} {g} v e = code_of (verdict_passed (code_checks n g) tt v e)
 pub allowed_zero : {n g rule m : ℕ} → Verdict (rule_checks n g rule) m → m ≡ 0 → Allowed n g rule
 allowed_zero {n} {g} {rule} v e = allowed_of (verdict_passed (rule_checks n g rule) tt v e)
 
+-- after the checks of a code those that follow decide
+pub code_decides : {n g m : ℕ} (last : List Check) → Verdict (code_checks n g) 0 → Verdict last m → Verdict (code_checks n g ++ last) m
+code_decides {n} {g} {m} last v = verdict_on (code_checks n g) last m (of_code (code_zero v refl))
+
 -- ---- a generator
 
 module _ {n g : ℕ} (h : Generator n g) where
@@ -70,6 +74,9 @@ module _ {n g : ℕ} (h : Generator n g) where
 
   pub generator_r : {r : ℕ} → Where (0 < g) (Degree g r) (r ≡ 0) → r ≡ h.r
   generator_r w = degree_unique (generator_degree w) h.degree
+
+pub generator_given : {n g r : ℕ} → 2 ≤ n → n ≤ 63 → Generator n g → Degree g r → Given n g r
+generator_given l m h d = rw (degree_unique d h.degree) (record { least = l; most = m; degree = h.degree; one = h.least; few = h.most })
 
 pub code_given : {n g r : ℕ} → Code n g → Where (0 < g) (Degree g r) (r ≡ 0) → Given n g r
 code_given c w =
@@ -95,6 +102,11 @@ message_length h m = omega (arith, m.whole, degree_unique m.degree h)
 -- x^n + 1
 pub power_one : (n : ℕ) → n ≤ 63 → sum ((1 * 2 ^ n) % 2 ^ 64) 1 ≡ sum (2 ^ n) 1
 power_one n l = rw (one-mul, mod-eq_of_lt (pow-lt (let h : n < 64 = omega arith in h)))
+
+-- x^n + 1 divided by a generator
+pub whole_divided : {n g q s : ℕ} {Else : Type 0} → n ≤ 63 → Generator n g
+    → Where ((0 < g) × (g < 2 ^ 33)) (Divided (sum ((1 * 2 ^ n) % 2 ^ 64) 1) g q s) Else → Divided (sum (2 ^ n) 1) g q s
+whole_divided {n} {g} {q} {s} l h w = subst (λ (p : ℕ). Divided p g q s) (power_one n l) (w.holds (generator_pos h, generator_lt h))
 
 -- g divides exactly what leaves nothing
 module _ {p g q s : ℕ} (v : Divided p g q s) where

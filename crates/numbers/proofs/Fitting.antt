@@ -9,7 +9,7 @@ use native.Mathlib.Omega.{arith}
 use lib.Pow.{pow_mono, shl_exact}
 use Rattle.poly.specs.Poly.{sum, times, Degree, Divided, Remainder}
 use Rattle.poly.proofs.Times.{times_comm}
-use Rattle.poly.proofs.Degree.{degree_pos, high_zero}
+use Rattle.poly.proofs.Degree.{degree_pos, degree_unique, high_zero}
 use Rattle.poly.proofs.Division.{remainder_of, remainder_double}
 use Rattle.poly.specs.Shifts.{Ready, low}
 use Rattle.poly.proofs.Shifting.{zero_ready}
@@ -18,36 +18,36 @@ use Rattle.verdict.proofs.Verdict.{passed_first, passed_last}
 use Rattle.codes.specs.Code.{code_checks}
 use Rattle.codes.specs.Coding.{Systematic, Product}
 use Rattle.codes.specs.Calls.{MessageFits, message_check}
-use Rattle.codes.proofs.Checking.{Code, code_of, generator_degree, generator_r, generator_pos, generator_lt}
+use Rattle.codes.proofs.Checking.{Code, code_of, generator_pos, generator_lt}
 use Rattle.codes.proofs.Calls.{message_fits, message_below}
 use Rattle.codes.proofs.Coding.{product_word}
 
-module _ {n g r : ℕ} (code : Code n g) (w : Where (0 < g) (Degree g r) (r ≡ 0)) where
-  has : Degree g r
-  has = generator_degree code.generator w
+module _ {n g r : ℕ} (code : Code n g) (d : Degree g r) where
+  same : r ≡ code.generator.r
+  same = degree_unique d code.generator.degree
 
   pub code_room : r < n
-  code_room = omega (arith, generator_r code.generator w, code.generator.room)
+  code_room = omega (arith, same, code.generator.room)
 
   pub code_few : r ≤ 32
-  code_few = omega (arith, generator_r code.generator w, code.generator.most)
+  code_few = omega (arith, same, code.generator.most)
 
   -- a message of k = n - r cells
-  pub message_small : {d : ℕ} → d / 2 ^ (n - r) ≡ 0 → MessageFits n g d
-  message_small {d} e = message_fits code has (high_zero d (n - r) e)
+  pub message_small : {m : ℕ} → m / 2 ^ (n - r) ≡ 0 → MessageFits n g m
+  message_small {m} e = message_fits code d (high_zero m (n - r) e)
 
-  pub message_large : {d : ℕ} → (d / 2 ^ (n - r) ≡ 0 → ⊥) → MessageFits n g d → ⊥
-  message_large f h = f (div-eq_of_lt (message_below code has h))
+  pub message_large : {m : ℕ} → (m / 2 ^ (n - r) ≡ 0 → ⊥) → MessageFits n g m → ⊥
+  message_large f h = f (div-eq_of_lt (message_below code d h))
 
   -- x^r times it has n digits
-  pub message_shl : {d : ℕ} → MessageFits n g d → (d * 2 ^ r) % 2 ^ 64 ≡ d * 2 ^ r
-  message_shl f = shl_exact (n - r) r 64 (message_below code has f) (omega (arith, code_room, code.most))
+  pub message_shl : {m : ℕ} → MessageFits n g m → (m * 2 ^ r) % 2 ^ 64 ≡ m * 2 ^ r
+  message_shl f = shl_exact (n - r) r 64 (message_below code d f) (omega (arith, code_room, code.most))
 
   -- the systematic word
-  pub systematic_made : {d q s : ℕ} → Where ((0 < g) × (g < 2 ^ 33)) (Divided (d * 2 ^ r) g q s) ((q ≡ 0) × (s ≡ 0)) → Systematic g d (sum (d * 2 ^ r) s)
-  systematic_made {d} {q} {s} v =
+  pub systematic_made : {m q s : ℕ} → Where ((0 < g) × (g < 2 ^ 33)) (Divided (m * 2 ^ r) g q s) ((q ≡ 0) × (s ≡ 0)) → Systematic g m (sum (m * 2 ^ r) s)
+  systematic_made {m} {q} {s} v =
       let h = code.generator in
-      record { r = r; degree = has; rest = s; remainder = remainder_of (v.holds (generator_pos h, generator_lt h)); word = refl }
+      record { r = r; degree = d; rest = s; remainder = remainder_of (v.holds (generator_pos h, generator_lt h)); word = refl }
 
 -- the product word, with the factors the other way round
 pub product_made : {n g d c : ℕ} → Code n g → MessageFits n g d → Where (times g d < 2 ^ 64) (c ≡ times g d) (c ≡ 0) → Product g d c

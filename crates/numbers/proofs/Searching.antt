@@ -1,9 +1,8 @@
 -- The search by shifts finds each pattern: a single cell is x^i, two neighbours are x^i times 3, and the two ends are x^(n-1) times 3, as x^n leaves 1.
 -- Assumes nothing.
 use mathlib.Core.Path.{◌≡◌, sym, ap, ◌∙◌}
-use mathlib.Core.Bool.{true, false, true≢false}
 use Prim.Native.Nat.{ℕ, suc, ◌-◌, ◌*◌, ◌%◌, ◌^◌, ◌≤◌, ◌<◌}
-use native.Mathlib.Nat.{one-mul, pow-suc, mul_comm, lt_of_lt_of_le}
+use native.Mathlib.Nat.{one-mul, pow-suc, mul_comm}
 use native.Mathlib.Omega.{arith}
 use lib.Dec.{lit<}
 use lib.Pow.{shl_exact}
@@ -12,7 +11,7 @@ use Rattle.poly.proofs.Sum.{sum_shift, sum_comm, sum_assoc, sum_left_comm, sum_s
 use Rattle.poly.proofs.Division.{remainder_same, remainder_unique, remainder_zero}
 use Rattle.codes.specs.Mending.{Pattern, none, single, pair, ends}
 use Rattle.codes.proofs.Checking.{Code, generator_pos}
-use Rattle.numbers.specs.Finding.{FirstShift, Finds}
+use Rattle.numbers.specs.Finding.{NoShift}
 
 -- x^i times 3
 pub three_shift : (i : ℕ) → 3 * 2 ^ i ≡ sum (2 ^ suc i) (2 ^ i)
@@ -39,25 +38,12 @@ module _ {n g : ℕ} (code : Code n g) where
   round_ends v = remainder_same (3 * 2 ^ (n - 1)) (rw (ends_differ n pos) code.divides) v
 
   -- no pattern leaves s where s is not 0 and no shift of 1, from rule 1 on, and none of 3, from rule 2 on, does
-  pub no_pattern : (rule : ℕ) {s : ℕ} → (s ≡ 0 → ⊥) → (1 ≤ rule → (j : ℕ) → j < n → Remainder (1 * 2 ^ j) g s → ⊥)
-      → (2 ≤ rule → (j : ℕ) → j < n → Remainder (3 * 2 ^ j) g s → ⊥)
+  pub no_pattern : (rule : ℕ) {s : ℕ} → (s ≡ 0 → ⊥) → (1 ≤ rule → NoShift 1 g s n) → (2 ≤ rule → NoShift 3 g s n)
       → (e : ℕ) → Pattern n rule e → Remainder e g s → ⊥
   no_pattern rule z one three e none v = z (remainder_unique v (remainder_zero (generator_pos code.generator)))
   no_pattern rule z one three e (single i l b) v = one b i l (rw (one-mul (2 ^ i)) v)
   no_pattern rule z one three e (pair i l b) v = three b i (omega arith) (rw (three_shift i) v)
   no_pattern rule z one three e (ends b) v = three b (n - 1) (omega (arith, code.least)) (round_ends v)
-
--- ---- what the search answers
-
--- where no place was found below m, none is there
-pub first_none : {e g s m i : ℕ} → FirstShift e g s m i → m ≤ i → (j : ℕ) → j < m → Remainder (e * 2 ^ j) g s → ⊥
-first_none h l j b = h.before j (lt_of_lt_of_le b l)
-
-pub finds_yes : {P : ℕ → Type 0} {g s e : ℕ} → P e → Remainder e g s → Finds P g s true e
-finds_yes p v = record { yes = λ t. (p, v); no = λ t. absurd (true≢false t) }
-
-pub finds_no : {P : ℕ → Type 0} {g s e : ℕ} → ((f : ℕ) → P f → Remainder f g s → ⊥) → Finds P g s false e
-finds_no f = record { yes = λ t. absurd (true≢false (sym t)); no = λ t. f }
 
 -- ---- the places as they are computed
 

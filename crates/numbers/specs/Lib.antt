@@ -1,2 +1,2 @@
--- The promises of the calls are `Calls` of the crate codes. `Finding` is cited by private functions only.
 pub mod Finding
+pub mod Results

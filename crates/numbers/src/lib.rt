@@ -1,260 +1,154 @@
 // The calls on a code with words and messages as numbers: bit i is x^i, so the last cell is the lowest.
 #![tactic(auto)]
 
-ghost use Rattle.std.specs.Prelude.{[], ◌∷◌, ◌++◌, ◌^◌, ◌≤◌, ◌<◌};
-ghost use Rattle.poly.specs.Poly.{Degree};
+ghost use Rattle.std.specs.Prelude.{◌≡◌, [], ◌∷◌, ◌++◌, ◌≤◌, IfOk};
+ghost use Rattle.verdict.specs.Refusal.{number, value};
 ghost use Rattle.verdict.specs.Verdict.{Verdict};
 ghost use Rattle.codes.specs.Code.{code_checks};
 ghost use Rattle.codes.specs.Mending.{Pattern};
 ghost use Rattle.codes.specs.Coding.{Systematic, Product, First};
 ghost use Rattle.codes.specs.Calls.{message_check, Encodes, Leaves, Decodes};
-ghost use Rattle.codes.specs.Row.{Given};
 ghost use Rattle.codes.specs.Finding.{FindsCode};
-ghost use Rattle.codes.proofs.Checking.{Code};
-ghost use Rattle.numbers.specs.Finding.{FirstShift, Finds};
+ghost use Rattle.codes.proofs.Checking.{Code as Checked};
+ghost use Rattle.numbers.specs.Finding.{FirstShift, Finds, code_found, mended_found};
+ghost use Rattle.numbers.specs.Results.{message, mended};
 
-#[repr(C)]
-#[derive(Clone, Copy)]
-pub struct Value {
-    pub number: u64,
-    pub value: u64,
-}
+use codes::Code;
+use verdict::Refusal;
 
-#[repr(C)]
+/// The message of the code word that a word stands for, and how many of its cells were mended.
 #[derive(Clone, Copy)]
 pub struct Decoding {
-    pub number: u64,
     pub message: u64,
     pub mended: u64,
 }
 
-// The checks of a message.
-fn message_number(n: usize, g: u64, message: u64) -> u64
-    ensures { Verdict (code_checks n g ++ (message_check n g message ∷ [])) result }
+// The code, where the message fits it.
+fn message_code(n: usize, g: u64, message: u64) -> Result<Code, Refusal>
+    ensures checks { Verdict (code_checks n g ++ (message_check n g message ∷ [])) (number result) }
+    ensures code { IfOk result (λ code. (code.n ≡ n) × (code.g ≡ g)) }
 {
-    let m = codes::check_code(n, g);
-    if m != 0 {
-        return m;
+    let code = Code::new(n, g)?;
+    if message >> (n - code.r) != 0 {
+        return Err(Refusal::Lent);
     }
-    if message >> (n - poly::degree_of(g)) != 0 {
-        return 6;
-    }
-    0
+    Ok(code)
 }
 
-// The systematic word of a message: x^r D + the remainder of x^r D by g.
-pub fn encode_systematic(n: usize, g: u64, message: u64) -> Value
-    ensures { Encodes Systematic n g message result.number result.value }
+/// The systematic word of a message: x^r D + the remainder of x^r D by g.
+pub fn encode_systematic(n: usize, g: u64, message: u64) -> Result<u64, Refusal>
+    ensures { Encodes Systematic n g message (number result) (value result) }
 {
-    let m = message_number(n, g, message);
-    if m != 0 {
-        return Value {
-            number: m,
-            value: 0,
-        };
-    }
-    let shifted = message << poly::degree_of(g);
+    let code = message_code(n, g, message)?;
+    let shifted = message << code.r;
     let parts = poly::divide_number(shifted, g);
-    Value {
-        number: 0,
-        value: shifted ^ parts.remainder,
-    }
+    Ok(shifted ^ parts.remainder)
 }
 
-// The product word of a message: D times g.
-pub fn encode_product(n: usize, g: u64, message: u64) -> Value
-    ensures { Encodes Product n g message result.number result.value }
+/// The product word of a message: D times g.
+pub fn encode_product(n: usize, g: u64, message: u64) -> Result<u64, Refusal>
+    ensures { Encodes Product n g message (number result) (value result) }
 {
-    let m = message_number(n, g, message);
-    if m != 0 {
-        return Value {
-            number: m,
-            value: 0,
-        };
-    }
-    Value {
-        number: 0,
-        value: poly::times_number(g, message),
-    }
+    message_code(n, g, message)?;
+    Ok(poly::times_number(g, message))
 }
 
-// The remainder of a word.
-pub fn remainder(n: usize, g: u64, word: u64) -> Value
-    ensures { Leaves n g word result.number result.value }
+/// The remainder of a word.
+pub fn remainder(n: usize, g: u64, word: u64) -> Result<u64, Refusal>
+    ensures { Leaves n g word (number result) (value result) }
 {
-    let m = codes::check_code(n, g);
-    if m != 0 {
-        return Value {
-            number: m,
-            value: 0,
-        };
-    }
+    codes::check_code(n, g)?;
     if word >> n != 0 {
-        return Value {
-            number: 6,
-            value: 0,
-        };
+        return Err(Refusal::Lent);
     }
     let parts = poly::divide_number(word, g);
-    Value {
-        number: 0,
-        value: parts.remainder,
-    }
+    Ok(parts.remainder)
 }
 
-// The first place i below m where x^i times e has the remainder s, and m where there is none.
-fn first_shift(e: u64, g: u64, r: usize, s: u64, m: usize) -> usize
-    requires { (m ≤ 63) × (r ≤ 32) × Degree g r }
-    ensures { FirstShift e g s m result }
+// The first place i below m where x^i times e has the remainder s.
+fn first_shift(code: Code, e: u64, s: u64, m: usize) -> Option<usize>
+    ensures { FirstShift e code.g s m result }
 {
-    let start = poly::divide_number(e, g);
+    let start = poly::divide_number(e, code.g);
     let mut p = start.remainder;
-    let mut i: usize = 0;
-    while i < m {
+    for i in 0..m {
         if p == s {
-            return i;
+            return Some(i);
         }
-        p = poly::low_shift(r, g, p, 0);
-        i += 1;
+        p = poly::low_shift(code.r, code.g, p, 0);
     }
-    i
-}
-
-#[derive(Clone, Copy)]
-struct Found {
-    pub found: bool,
-    pub places: u64,
+    None
 }
 
 // The pattern of the rule that has the remainder s. (3 is two neighbouring cells; shifted to x^(n-1) it goes over the end, and is the two ends.)
-fn find(n: usize, g: u64, r: usize, rule: u64, s: u64) -> Found
-    requires { Code n g × Given n g r }
-    ensures { Finds (Pattern n rule) g s result.found result.places }
+fn find(code: Code, rule: u64, s: u64) -> Option<u64>
+    requires { Checked code.n code.g }
+    ensures { Finds (Pattern code.n rule) code.g s result }
 {
+    let n = code.n;
     if s == 0 {
-        return Found {
-            found: true,
-            places: 0,
-        };
+        return Some(0);
     }
     if rule == 0 {
-        return Found {
-            found: false,
-            places: 0,
-        };
+        return None;
     }
-    let single = first_shift(1, g, r, s, n);
-    if single < n {
-        return Found {
-            found: true,
-            places: 1 << single,
-        };
+    if let Some(i) = first_shift(code, 1, s, n) {
+        return Some(1 << i);
     }
     if rule == 1 {
-        return Found {
-            found: false,
-            places: 0,
-        };
+        return None;
     }
-    let pair = first_shift(3, g, r, s, n);
-    if pair < n - 1 {
-        return Found {
-            found: true,
-            places: 3 << pair,
-        };
+    let i = first_shift(code, 3, s, n)?;
+    if i < n - 1 {
+        return Some(3 << i);
     }
-    if pair < n {
-        return Found {
-            found: true,
-            places: (1 << (n - 1)) ^ 1,
-        };
-    }
-    Found {
-        found: false,
-        places: 0,
-    }
+    Some((1 << (n - 1)) ^ 1)
 }
 
+// A code word, and in how many cells it differs from the word that was read.
 #[derive(Clone, Copy)]
 struct Mending {
-    pub number: u64,
-    pub code: u64,
-    pub mended: u64,
+    code: u64,
+    mended: u64,
 }
 
 // The code word that differs from a word in a pattern of the rule.
-fn find_code(n: usize, g: u64, rule: u64, word: u64) -> Mending
-    ensures { FindsCode n g rule word result.number result.code result.mended }
+fn find_code(n: usize, g: u64, rule: u64, word: u64) -> Result<Mending, Refusal>
+    ensures { FindsCode n g rule word (number result) (code_found result) (mended_found result) }
 {
-    let m = codes::check_rule(n, g, rule);
-    if m != 0 {
-        return Mending {
-            number: m,
-            code: 0,
-            mended: 0,
-        };
-    }
+    let code = Code::carrying(n, g, rule)?;
     if word >> n != 0 {
-        return Mending {
-            number: 6,
-            code: 0,
-            mended: 0,
-        };
+        return Err(Refusal::Lent);
     }
     let parts = poly::divide_number(word, g);
-    let x = find(n, g, poly::degree_of(g), rule, parts.remainder);
-    if !x.found {
-        return Mending {
-            number: 8,
-            code: 0,
-            mended: 0,
-        };
-    }
-    let places = x.places;
-    Mending {
-        number: 0,
+    let Some(places) = find(code, rule, parts.remainder) else {
+        return Err(Refusal::Unreadable);
+    };
+    Ok(Mending {
         code: word ^ places,
-        mended: u64::count_ones(places) as u64,
-    }
+        mended: places.count_ones() as u64,
+    })
 }
 
-// The message of the code word that differs from a word in a pattern of the rule: its first k cells.
-pub fn decode_systematic(n: usize, g: u64, rule: u64, word: u64) -> Decoding
-    ensures { Decodes First n g rule word result.number result.message result.mended }
+/// The message of the code word that differs from a word in a pattern of the rule: its first k cells.
+pub fn decode_systematic(n: usize, g: u64, rule: u64, word: u64) -> Result<Decoding, Refusal>
+    ensures { Decodes First n g rule word (number result) (message result) (mended result) }
 {
-    let x = find_code(n, g, rule, word);
-    let m = x.number;
-    if m != 0 {
-        return Decoding {
-            number: m,
-            message: 0,
-            mended: 0,
-        };
-    }
-    Decoding {
-        number: 0,
+    let x = find_code(n, g, rule, word)?;
+    Ok(Decoding {
         message: x.code >> poly::degree_of(g),
         mended: x.mended,
-    }
+    })
 }
 
-// The same with its quotient by g.
-pub fn decode_product(n: usize, g: u64, rule: u64, word: u64) -> Decoding
-    ensures { Decodes Product n g rule word result.number result.message result.mended }
+/// The same with its quotient by g.
+pub fn decode_product(n: usize, g: u64, rule: u64, word: u64) -> Result<Decoding, Refusal>
+    ensures { Decodes Product n g rule word (number result) (message result) (mended result) }
 {
-    let x = find_code(n, g, rule, word);
-    let m = x.number;
-    if m != 0 {
-        return Decoding {
-            number: m,
-            message: 0,
-            mended: 0,
-        };
-    }
+    let x = find_code(n, g, rule, word)?;
     let parts = poly::divide_number(x.code, g);
-    Decoding {
-        number: 0,
+    Ok(Decoding {
         message: parts.quotient,
         mended: x.mended,
-    }
+    })
 }
