@@ -1,53 +1,24 @@
 -- From a call on numbers to the same call on lent cells: its refusals, the checks of the cells behind them, and what was done.
 -- Assumes nothing.
-use mathlib.Core.Path.{◌≡◌, refl, ◌∙◌}
-use mathlib.Core.Bool.{Bool, true, false}
+use mathlib.Core.Path.{◌≡◌, refl}
 use mathlib.Core.List.{List, [], ◌∷◌, ◌++◌}
 use mathlib.Core.Logic.{◌⊎◌, inl, inr}
 use Prim.Native.Nat.{ℕ, ◌-◌, ◌^◌, ◌≤◌, ◌<◌}
-use native.Mathlib.Nat.{mod-eq_of_lt}
 use native.Mathlib.Omega.{arith}
-use lib.ListN.{length, length-append}
-use lib.Pow.{split}
+use lib.ListN.{length}
 use Rattle.poly.specs.Poly.{Degree}
-use Rattle.poly.specs.Cells.{Cells, poly, cells}
-use Rattle.poly.proofs.Degree.{degree_unique}
-use Rattle.poly.proofs.Cells.{poly_lt, poly-append, poly-cells, length-cells, cells-cells, cells-append}
+use Rattle.poly.specs.Cells.{Cells, poly}
+use Rattle.poly.proofs.Cells.{poly_lt}
 use Rattle.cells.specs.Lent.{cells_check}
 use Rattle.verdict.specs.Verdict.{Check, Verdict, Passed, Where}
 use Rattle.verdict.proofs.Verdict.{verdict_on, verdict_stop, passed_on, verdict_passed, settles_yes, settles_no}
-use Rattle.codes.specs.Code.{code_checks, MessageLength, CodeWord}
+use Rattle.codes.specs.Code.{code_checks, MessageLength}
 use Rattle.codes.specs.Mending.{Pattern, Readable, rule_checks}
-use Rattle.codes.specs.Coding.{Systematic, Product, Decoded}
+use Rattle.codes.specs.Coding.{Decoded}
 use Rattle.codes.specs.Calls.{MessageFits, message_check, word_check, readable_check, slices_check, Encodes, Decodes, EncodesCells, DecodesCells, Written}
 use Rattle.codes.proofs.Checking.{Code, Allowed, code_of, of_code, allowed_of, of_allowed, generator_degree, generator_r, message_room, message_length}
-use Rattle.codes.proofs.Coding.{systematic_first, product_word, first_fits, product_fits}
-use Rattle.words.specs.Within.{lengths_check, word_of, message_of}
+use Rattle.words.specs.Within.{lengths_check, Stands}
 use Rattle.codes.proofs.Cutting.{first_number_lem, first_passed}
-
--- ---- cells that stand for a number
-
-pub written_cells : (k c : ℕ) → c < 2 ^ k → Written k (cells k c) c
-written_cells k c l = record { long = length-cells k c; cells = cells-cells k c; stands = poly-cells k c ∙ mod-eq_of_lt l }
-
--- the message's cells, then the check cells
-pub written_tail : {n g c : ℕ} (message : List ℕ) → Systematic g (poly message) c → MessageLength n g (length message) → Cells message
-    → Written n (message ++ cells (n - length message) c) c
-written_tail {n} {g} {c} message h l k =
-    let f = systematic_first h in
-    let r : n - length message ≡ f.r = omega (arith, l.whole, degree_unique l.degree f.degree) in
-    record {
-      long = rw (length-append message (cells (n - length message) c), length-cells (n - length message) c) (omega (arith, l.whole));
-      cells = cells-append message (cells (n - length message) c) k (cells-cells (n - length message) c);
-      stands =
-          rw (poly-append message (cells (n - length message) c), length-cells (n - length message) c, poly-cells (n - length message) c, f.cells, r)
-          (split c f.r);
-    }
-
--- a code word's message fits k cells, by either rule
-pub says_fits : (way : Bool) {n g c d k : ℕ} → CodeWord n g c → MessageLength n g k → message_of way g d c → d < 2 ^ k
-says_fits true p l a = product_fits p l a
-says_fits false p l a = first_fits p l a
 
 -- ---- a message of k = n - r cells
 
@@ -71,12 +42,12 @@ word_wrong f h = f h.1
 
 -- ---- encoders
 
-module _ (way : Bool) {n g p m c : ℕ} (message word : List ℕ) (x : Encodes (word_of way) n g p m c) where
+module _ (Word : ℕ → ℕ → ℕ → Type 0) {n g p m c : ℕ} (message word : List ℕ) (x : Encodes Word n g p m c) where
   abbrev behind : List Check
   behind = slices_check n g message word ∷ cells_check message ∷ []
 
   -- a number 1 to 3
-  pub encode_first : (0 < m) × (m < 6) → EncodesCells (word_of way) n g message word word m
+  pub encode_first : (0 < m) × (m < 6) → EncodesCells Word n g message word word m
   encode_first l =
       settles_no (code_checks n g ++ behind) tt (λ e. omega (arith, e))
       (first_number_lem (code_checks n g) (message_check n g p ∷ []) behind m tt x.verdict l) refl
@@ -85,7 +56,7 @@ module _ (way : Bool) {n g p m c : ℕ} (message word : List ℕ) (x : Encodes (
   encode_code f = code_of (first_passed (code_checks n g) (message_check n g p ∷ []) tt x.verdict f).0
 
   -- a number of the cells
-  pub encode_lent : {l : ℕ} → Code n g → (l ≡ 0 → ⊥) → Verdict behind l → EncodesCells (word_of way) n g message word word l
+  pub encode_lent : {l : ℕ} → Code n g → (l ≡ 0 → ⊥) → Verdict behind l → EncodesCells Word n g message word word l
   encode_lent {l} k f v = settles_no (code_checks n g ++ behind) tt f (verdict_on (code_checks n g) behind l (of_code k) v) refl
 
   -- the cells are right, so the message is theirs
@@ -109,23 +80,20 @@ module _ (way : Bool) {n g p m c : ℕ} (message word : List ℕ) (x : Encodes (
     encode_fits = record { k = length message; long = encode_length; below = poly_lt message encode_right.1.0 }
 
     -- the call on numbers was done
-    encode_word : word_of way g (poly message) c
-    encode_word = rw encode_stands at (x.done (done (first_passed (code_checks n g) (message_check n g p ∷ []) tt x.verdict f).1))
+    pub encode_zero : m ≡ 0
+    encode_zero = done (first_passed (code_checks n g) (message_check n g p ∷ []) tt x.verdict f).1
       where
         done : Verdict (message_check n g p ∷ []) m → m ≡ 0
         done (inl a) = absurd (a.0 (rw encode_stands encode_fits))
         done (inr a) = a.1
 
-    encode_done : {word' : List ℕ} → Written n word' c → EncodesCells (word_of way) n g message word word' 0
-    encode_done z = settles_yes (code_checks n g ++ behind) tt (passed_on (code_checks n g) behind (of_code (encode_code f)) encode_right) (c, encode_word, z)
+    encode_word : Word g (poly message) c
+    encode_word = rw encode_stands at (x.done encode_zero)
 
-    pub product_done : way ≡ true → EncodesCells (word_of way) n g message word (cells (length word) c) 0
-    product_done t =
-        let y : Product g (poly message) c = rw t at encode_word in
-        encode_done (rw encode_long (written_cells n c (rw y (product_word encode_fits).below)))
-
-    pub systematic_done : way ≡ false → EncodesCells (word_of way) n g message word (message ++ cells (length word - length message) c) 0
-    systematic_done t = encode_done (rw encode_long (written_tail message (rw t at encode_word) encode_length encode_right.1.0))
+    pub encode_done : {written : List ℕ → List ℕ → ℕ → List ℕ} → Stands Word written → EncodesCells Word n g message word (written message word c) 0
+    encode_done z =
+        settles_yes (code_checks n g ++ behind) tt (passed_on (code_checks n g) behind (of_code (encode_code f)) encode_right)
+        (c, encode_word, z n g c message word encode_word encode_length encode_right.1.0 encode_long)
 
 -- ---- decoders
 

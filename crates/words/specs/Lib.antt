@@ -1,2 +1,3 @@
--- The promises of the calls are `Calls` of the crate codes. `Within` is cited by private functions only.
+-- The promises of the calls are `Calls` of the crate codes. `Within` and `Writing` are cited by private functions only.
 pub mod Within
+pub mod Writing

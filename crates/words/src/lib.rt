@@ -1,196 +1,199 @@
 // The calls on a code with words and messages as lent cells, first cell first.
 #![tactic(auto)]
 
-ghost use Rattle.std.specs.Prelude.{◌≡◌, [], ◌∷◌, ◌++◌, ◌-◌, ◌≤◌, length, drop};
+ghost use Rattle.std.specs.Prelude.{◌≡◌, List, ℕ, [], ◌∷◌, ◌++◌, ◌-◌, ◌≤◌, length};
 ghost use Rattle.poly.specs.Cells.{cells};
 ghost use Rattle.cells.specs.Lent.{cells_check};
+ghost use Rattle.verdict.specs.Refusal.{number, value};
 ghost use Rattle.verdict.specs.Verdict.{Verdict};
 ghost use Rattle.codes.specs.Coding.{Systematic, Product, First};
 ghost use Rattle.codes.specs.Calls.{Encodes, Decodes, EncodesCells, LeavesCells, DecodesCells};
 ghost use Rattle.codes.proofs.Checking.{Code};
-ghost use Rattle.words.specs.Within.{lengths_check, word_of, message_of};
+ghost use Rattle.numbers.specs.Results.{message, mended};
+ghost use Rattle.words.specs.Within.{lengths_check, written_systematic, written_product, Stands, Fits};
+ghost use Rattle.words.specs.Writing.{systematic_stands, product_stands};
+ghost use Rattle.codes.proofs.Coding.{first_fits, product_fits};
 
-#[repr(C)]
-#[derive(Clone, Copy)]
-pub struct Outcome {
-    pub number: u64,
-    pub remainder: u64,
+use numbers::Decoding;
+use verdict::Refusal;
+
+// A rule of encoding: its calls on numbers, and how a word is written into lent cells. Generic code rests on the two laws.
+trait Coding {
+    // `encoded g d c`: c is the word of the message d.
+    ghost encoded: { ℕ → ℕ → ℕ → Type 0 };
+
+    // `says g d c`: d is the message of the code word c.
+    ghost says: { ℕ → ℕ → ℕ → Type 0 };
+
+    // The lent cells with a word of a message written into them.
+    ghost written: { List ℕ → List ℕ → ℕ → List ℕ };
+
+    fn encode(n: usize, g: u64, message: u64) -> Result<u64, Refusal>
+        ensures { Encodes encoded n g message (number result) (value result) };
+
+    fn decode(n: usize, g: u64, rule: u64, word: u64) -> Result<Decoding, Refusal>
+        ensures { Decodes says n g rule word (number result) (message result) (mended result) };
+
+    fn write(message: &[u8], word: &mut [u8], value: u64)
+        requires { length message.now ≤ length word.old }
+        ensures { word.new ≡ written message.now word.old value };
+
+    // What is written stands for the word.
+    ghost stands: { Stands encoded written };
+
+    // A code word's message has at most k cells.
+    ghost fits: { Fits says };
 }
 
-#[repr(C)]
-#[derive(Clone, Copy)]
-pub struct Answer {
-    pub number: u64,
-    pub mended: u64,
+struct BySystematic;
+
+struct ByProduct;
+
+impl Coding for BySystematic {
+    ghost encoded = { Systematic };
+
+    ghost says = { First };
+
+    ghost written = { written_systematic };
+
+    fn encode(n: usize, g: u64, message: u64) -> Result<u64, Refusal> {
+        numbers::encode_systematic(n, g, message)
+    }
+
+    fn decode(n: usize, g: u64, rule: u64, word: u64) -> Result<Decoding, Refusal> {
+        numbers::decode_systematic(n, g, rule, word)
+    }
+
+    // The message's cells, then the check cells, which are the low digits of its word and are written into the tail of the lent word.
+    fn write(message: &[u8], word: &mut [u8], value: u64) {
+        let k = message.len();
+        word[..k].copy_from_slice(message);
+        cells::write_number(&mut word[k..], value);
+    }
+
+    ghost stands = { systematic_stands };
+
+    ghost fits = { λ n g c d k p l a. first_fits p l a };
+}
+
+impl Coding for ByProduct {
+    ghost encoded = { Product };
+
+    ghost says = { Product };
+
+    ghost written = { written_product };
+
+    fn encode(n: usize, g: u64, message: u64) -> Result<u64, Refusal> {
+        numbers::encode_product(n, g, message)
+    }
+
+    fn decode(n: usize, g: u64, rule: u64, word: u64) -> Result<Decoding, Refusal> {
+        numbers::decode_product(n, g, rule, word)
+    }
+
+    fn write(_message: &[u8], word: &mut [u8], value: u64) {
+        cells::write_number(word, value);
+    }
+
+    ghost stands = { product_stands };
+
+    ghost fits = { λ n g c d k p l a. product_fits p l a };
 }
 
 // The checks of lent cells behind those of a code: a message of k cells, a word of n, and input cells of 0 and 1.
-fn lent_number(n: usize, g: u64, message: usize, word: usize, input: &[u8]) -> u64
+fn lent(n: usize, g: u64, message: usize, word: usize, input: &[u8]) -> Result<(), Refusal>
     requires { Code n g }
-    ensures { Verdict (lengths_check n g message word ∷ cells_check input.now ∷ []) result }
+    ensures { Verdict (lengths_check n g message word ∷ cells_check input.now ∷ []) (number result) }
 {
-    if message != n - poly::degree_of(g) {
-        return 6;
-    }
-    if word != n {
-        return 6;
+    if message != n - poly::degree_of(g) || word != n {
+        return Err(Refusal::Lent);
     }
     if cells::first_bad(input) < input.len() {
-        return 7;
+        return Err(Refusal::Cell);
     }
-    0
+    Ok(())
 }
 
-// A refusal has zeros beside its number.
-fn refused(m: u64) -> Answer
-    ensures { (result.number ≡ m) × (result.mended ≡ 0) }
+// An encoder, with its word written into the lent cells.
+fn encode<C: Coding>(n: usize, g: u64, message: &[u8], word: &mut [u8]) -> Result<(), Refusal>
+    ensures { EncodesCells C.encoded n g message.now word.old word.new (number result) }
 {
-    Answer {
-        number: m,
-        mended: 0,
-    }
+    let x = C::encode(n, g, cells::number_of(message));
+    codes::early(&x)?;
+    lent(n, g, message.len(), word.len(), message)?;
+    C::write(message, word, x?);
+    Ok(())
 }
 
-// Cells copied to the front of others.
-fn copy_front(from: &[u8], to: &mut [u8])
-    requires { length from.now ≤ length to.old }
-    ensures { to.new ≡ from.now ++ drop (length from.now) to.old }
+/// The systematic word of a message: its k cells, then the check cells.
+pub fn encode_systematic(n: usize, g: u64, message: &[u8], word: &mut [u8]) -> Result<(), Refusal>
+    ensures { EncodesCells Systematic n g message.now word.old word.new (number result) }
 {
-    let mut i: usize = 0;
-    while i < from.len() {
-        to[i] = from[i];
-        i += 1;
-    }
+    encode::<BySystematic>(n, g, message, word)
 }
 
-// The message's cells, then the check cells, which are the low digits of its word and are written into the tail of the lent word.
-fn write_systematic(message: &[u8], word: &mut [u8], value: u64)
-    requires { length message.now ≤ length word.old }
-    ensures { word.new ≡ message.now ++ cells (length word.old - length message.now) value }
+/// The product word of a message: D times g.
+pub fn encode_product(n: usize, g: u64, message: &[u8], word: &mut [u8]) -> Result<(), Refusal>
+    ensures { EncodesCells Product n g message.now word.old word.new (number result) }
 {
-    let k = message.len();
-    copy_front(message, word);
-    cells::write_number(&mut word[k..], value);
+    encode::<ByProduct>(n, g, message, word)
 }
 
-// What the encoder on numbers answers, the systematic one or the product one.
-fn encode_number(product: bool, n: usize, g: u64, message: u64) -> numbers::Value
-    ensures { Encodes (word_of product) n g message result.number result.value }
+/// The remainder of a word: the low-side remainder of its n cells.
+pub fn remainder(n: usize, g: u64, word: &[u8]) -> Result<u64, Refusal>
+    ensures { LeavesCells n g word.now (number result) (value result) }
 {
-    if product {
-        return numbers::encode_product(n, g, message);
-    }
-    numbers::encode_systematic(n, g, message)
-}
-
-// The same with its word written into the lent cells.
-fn encode(product: bool, n: usize, g: u64, message: &[u8], word: &mut [u8]) -> u64
-    ensures { EncodesCells (word_of product) n g message.now word.old word.new result }
-{
-    let x = encode_number(product, n, g, cells::number_of(message));
-    let m = x.number;
-    if codes::comes_first(m) {
-        return m;
-    }
-    let l = lent_number(n, g, message.len(), word.len(), message);
-    if l != 0 {
-        return l;
-    }
-    if product {
-        cells::write_number(word, x.value);
-        return 0;
-    }
-    write_systematic(message, word, x.value);
-    0
-}
-
-// The systematic word of a message: its k cells, then the check cells.
-pub fn encode_systematic(n: usize, g: u64, message: &[u8], word: &mut [u8]) -> u64
-    ensures { EncodesCells Systematic n g message.now word.old word.new result }
-{
-    encode(false, n, g, message, word)
-}
-
-// The product word of a message: D times g.
-pub fn encode_product(n: usize, g: u64, message: &[u8], word: &mut [u8]) -> u64
-    ensures { EncodesCells Product n g message.now word.old word.new result }
-{
-    encode(true, n, g, message, word)
-}
-
-// The remainder of a word: the low-side remainder of its n cells.
-pub fn remainder(n: usize, g: u64, word: &[u8]) -> Outcome
-    ensures { LeavesCells n g word.now result.number result.remainder }
-{
-    let m = codes::check_code(n, g);
-    if m != 0 {
-        return Outcome {
-            number: m,
-            remainder: 0,
-        };
-    }
+    codes::check_code(n, g)?;
     if word.len() != n {
-        return Outcome {
-            number: 6,
-            remainder: 0,
-        };
+        return Err(Refusal::Lent);
     }
-    if cells::first_bad(word) < word.len() {
-        return Outcome {
-            number: 7,
-            remainder: 0,
-        };
+    if cells::first_bad(word) < n {
+        return Err(Refusal::Cell);
     }
     let parts = poly::divide_number(cells::number_of(word), g);
-    Outcome {
-        number: 0,
-        remainder: parts.remainder,
-    }
+    Ok(parts.remainder)
 }
 
-// What the decoder on numbers answers, the systematic one or the product one.
-fn decode_number(product: bool, n: usize, g: u64, rule: u64, word: u64) -> numbers::Decoding
-    ensures { Decodes (message_of product) n g rule word result.number result.message result.mended }
+// A decoder, with its message written into the lent cells, and the count of mended cells.
+fn decode<C: Coding>(
+    n: usize,
+    g: u64,
+    rule: u64,
+    word: &[u8],
+    message: &mut [u8],
+) -> Result<u64, Refusal>
+    ensures { DecodesCells C.says n g rule word.now message.old message.new (number result) (value result) }
 {
-    if product {
-        return numbers::decode_product(n, g, rule, word);
-    }
-    numbers::decode_systematic(n, g, rule, word)
+    let x = C::decode(n, g, rule, cells::number_of(word));
+    codes::early(&x)?;
+    lent(n, g, message.len(), word.len(), word)?;
+    let decoding = x?;
+    cells::write_number(message, decoding.message);
+    Ok(decoding.mended)
 }
 
-// The same with its message written into the lent cells.
-fn decode(product: bool, n: usize, g: u64, rule: u64, word: &[u8], message: &mut [u8]) -> Answer
-    ensures { DecodesCells (message_of product) n g rule word.now message.old message.new result.number result.mended }
+/// The message of the code word that differs from a word in a pattern of the rule: its first k cells.
+pub fn decode_systematic(
+    n: usize,
+    g: u64,
+    rule: u64,
+    word: &[u8],
+    message: &mut [u8],
+) -> Result<u64, Refusal>
+    ensures { DecodesCells First n g rule word.now message.old message.new (number result) (value result) }
 {
-    let x = decode_number(product, n, g, rule, cells::number_of(word));
-    let m = x.number;
-    if codes::comes_first(m) {
-        return refused(m);
-    }
-    let l = lent_number(n, g, message.len(), word.len(), word);
-    if l != 0 {
-        return refused(l);
-    }
-    if m != 0 {
-        return refused(m);
-    }
-    cells::write_number(message, x.message);
-    Answer {
-        number: 0,
-        mended: x.mended,
-    }
+    decode::<BySystematic>(n, g, rule, word, message)
 }
 
-// The message of the code word that differs from a word in a pattern of the rule: its first k cells.
-pub fn decode_systematic(n: usize, g: u64, rule: u64, word: &[u8], message: &mut [u8]) -> Answer
-    ensures { DecodesCells First n g rule word.now message.old message.new result.number result.mended }
+/// The same with its quotient by g.
+pub fn decode_product(
+    n: usize,
+    g: u64,
+    rule: u64,
+    word: &[u8],
+    message: &mut [u8],
+) -> Result<u64, Refusal>
+    ensures { DecodesCells Product n g rule word.now message.old message.new (number result) (value result) }
 {
-    decode(false, n, g, rule, word, message)
-}
-
-// The same with its quotient by g.
-pub fn decode_product(n: usize, g: u64, rule: u64, word: &[u8], message: &mut [u8]) -> Answer
-    ensures { DecodesCells Product n g rule word.now message.old message.new result.number result.mended }
-{
-    decode(true, n, g, rule, word, message)
+    decode::<ByProduct>(n, g, rule, word, message)
 }

@@ -1,42 +1,30 @@
 -- The message on numbers, written as k cells.
+use mathlib.Core.Path.{refl}
 use lib.ListN.{length}
-use Rattle.words.specs.Within.{message_of}
-use Rattle.words.proofs.Lending.{written_cells, says_fits, decode_first, decode_allowed, decode_lent, decode_unread, decode_decoded, decode_length, decode_done}
+use Rattle.verdict.proofs.Verdict.{number_of_nonzero, refused_as}
+use Rattle.words.specs.Writing.{written_cells}
+use Rattle.words.proofs.Lending.{decode_unread, decode_decoded, decode_length, decode_done}
 use Rattle.words.proofs.decode.Goals as goal
 
-pub returns-then-comes_first : goal.returns-then-comes_first
-returns-then-comes_first c =
-    rw (c.refused.ensures.0, c.refused.ensures.1)
-    (decode_first (message_of c.args.product) c.args.word.now c.args.message.now c.decode_number-x.ensures (c.comes_first.ensures.yes c.if-comes_first.true))
-
-pub lent_number-l-requires : goal.lent_number-l-requires
-lent_number-l-requires c =
-    (decode_allowed (message_of c.args.product) c.args.word.now c.args.message.now c.decode_number-x.ensures (c.comes_first.ensures.no c.if-comes_first.false)).code
-
-pub returns-then-l-ne0 : goal.returns-then-l-ne0
-returns-then-l-ne0 c =
-    let x = c.decode_number-x.ensures in
-    let w = c.args.word.now in
-    let m = c.args.message.now in
-    rw (c.refused-then-l-ne0.ensures.0, c.refused-then-l-ne0.ensures.1)
-    (decode_lent (message_of c.args.product) w m x (decode_allowed (message_of c.args.product) w m x (c.comes_first.ensures.no c.if-comes_first.false)) c.if-l-ne0.true c.lent_number-l.ensures)
-
-pub returns-then-m-ne0 : goal.returns-then-m-ne0
-returns-then-m-ne0 c =
-    rw (c.refused-then-m-ne0.ensures.0, c.refused-then-m-ne0.ensures.1)
-    (decode_unread (message_of c.args.product) c.args.word.now c.args.message.now c.decode_number-x.ensures (c.comes_first.ensures.no c.if-comes_first.false) c.lent_number-l.ensures c.if-l-ne0.false
-    c.number_of.ensures c.if-m-ne0.true)
+pub returns-in_err-decoding : goal.returns-in_err-decoding
+returns-in_err-decoding g c =
+    let a = c.args in
+    let e = c.in_err-decoding.field-0.0 in
+    let x = rw c.in_err-decoding.was at c.decode-x.ensures in
+    let late = rw c.in_err-decoding.was at c.in_ok-early.ensures.late in
+    rw (refused_as c.from_residual-in_err-decoding.result c.from_residual-in_err-decoding.ensures.1)
+    (decode_unread g.C.Coding.says a.word.now a.message.now x late c.in_ok-lent.ensures refl c.number_of.ensures (number_of_nonzero e))
 
 pub returns : goal.returns
-returns c =
-    let way = c.args.product in
+returns g c =
     let w = c.args.word.now in
     let m = c.args.message.now in
-    let x = c.decode_number-x.ensures in
-    let v = c.lent_number-l.ensures in
-    let z = c.if-l-ne0.false in
+    let x = rw c.in_ok-decoding.was at c.decode-x.ensures in
+    let late = rw c.in_ok-decoding.was at c.in_ok-early.ensures.late in
+    let d = c.in_ok-decoding.decoding in
+    let v = c.in_ok-lent.ensures in
     let p = c.number_of.ensures in
-    let y = decode_decoded (message_of way) w m x (c.comes_first.ensures.no c.if-comes_first.false) v z p c.if-m-ne0.false in
-    let k = decode_length (message_of way) w m x (c.comes_first.ensures.no c.if-comes_first.false) v z p in
-    decode_done (message_of way) w m x (c.comes_first.ensures.no c.if-comes_first.false) v z p c.if-m-ne0.false
-    (rw c.write_number.ensures (written_cells (length m) _ (says_fits way y.mends.code k y.message)))
+    let y = decode_decoded g.C.Coding.says w m x late v refl p refl in
+    let k = decode_length g.C.Coding.says w m x late v refl p in
+    decode_done g.C.Coding.says w m x late v refl p refl
+    (rw c.write_number.ensures (written_cells (length m) d.message (g.met.C.Coding.fits c.args.n c.args.g y.code d.message (length m) y.mends.code k y.message)))

@@ -3,16 +3,21 @@ use mathlib.Core.Logic.{inl, inr}
 use mathlib.Core.Path.{refl}
 use Rattle.cells.proofs.Lent.{first_bad_cells, first_bad_none}
 use Rattle.words.proofs.Lending.{length_room, length_right, message_wrong, word_wrong}
-use Rattle.words.proofs.lent_number.Goals as goal
+use Rattle.words.proofs.lent.Goals as goal
+use Rattle.words.proofs.lent.Goals.{then-message-n-via-then-message-n, then-message-n-via-else-message-n+then-word-n}
 
 pub overflow_sub-n : goal.overflow_sub-n
 overflow_sub-n c = length_room c.requires c.degree_of.ensures
 
 pub returns-then-message-n : goal.returns-then-message-n
-returns-then-message-n c = inl (message_wrong c.requires c.degree_of.ensures c.if-message-n.true, refl)
-
-pub returns-then-word-n : goal.returns-then-word-n
-returns-then-word-n c = inl (word_wrong c.if-word-n.true, refl)
+returns-then-message-n c =
+    inl (
+      (elim c.then-message-n.branch [
+        | then-message-n-via-then-message-n w ↦ message_wrong c.requires c.degree_of.ensures w.if-message-n.true
+        | then-message-n-via-else-message-n+then-word-n w ↦ word_wrong w.if-word-n.true
+      ]),
+      refl,
+    )
 
 pub returns-then-first_bad-input : goal.returns-then-first_bad-input
 returns-then-first_bad-input c =
