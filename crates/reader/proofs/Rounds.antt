@@ -3,11 +3,13 @@
 -- Assumes nothing.
 use mathlib.Core.Path.{◌≡◌, refl, sym, ap, ◌∙◌}
 use mathlib.Core.Bool.{Bool, true, false}
-use mathlib.Core.Logic.{⊎_elim}
+use mathlib.Core.Logic.{◌⊎◌, inl, inr, ⊎_elim}
 use Prim.Native.Nat.{ℕ, zero, suc, ◌+◌, ◌-◌, ◌*◌, ◌/◌, ◌%◌, ◌^◌, ◌≤◌, ◌<◌}
 use native.Mathlib.Nat.{one-mul, pow-suc, zero-div}
 use native.Mathlib.Omega.{arith}
 use lib.Pow.{pow-add, pow-lt, shl-shr}
+use lib.Dec.{eqb}
+use Rattle.std.proofs.lemmas.Bool.Decides.{eqb_tells}
 use Rattle.poly.specs.Poly.{sum, coefficient, Degree, Remainder, Divides}
 use Rattle.poly.proofs.Computed.{divide}
 use Rattle.poly.proofs.Sum.{sum_comm, sum_assoc, sum_lt, sum-mod, sum_double, sum_shift}
@@ -193,16 +195,17 @@ module _ {n g : ℕ} (code : Code n g) where
       told_no : (Fires rule u v s → ⊥) → Told false
       told_no f i l = tells_no λ t. f (trigger_fires code hu hv i (n - suc i) (omega arith) t)
 
-      pub told_after : 2 ≤ rule → s ≡ sum u v → Told true
-      told_after b e = told_yes (after b e)
-
-      pub told_none : (s ≡ u → ⊥) → (s ≡ sum u 1 → ⊥) → (s ≡ sum u v → ⊥) → Told false
-      told_none a b c = told_no go
+      pub told_last : 2 ≤ rule → (s ≡ u → ⊥) → (s ≡ sum u 1 → ⊥) → Told (eqb s (sum u v))
+      told_last b a c = rest (eqb_tells s (sum u v))
         where
-          go : Fires rule u v s → ⊥
-          go (alone r e) = a e
-          go (after r e) = c e
-          go (before r e) = b e
+          none_of : (s ≡ sum u v → ⊥) → Fires rule u v s → ⊥
+          none_of d (alone r e) = a e
+          none_of d (after r e) = d e
+          none_of d (before r e) = c e
+
+          rest : ((eqb s (sum u v) ≡ true) × (s ≡ sum u v)) ⊎ ((eqb s (sum u v) ≡ false) × (s ≡ sum u v → ⊥)) → Told (eqb s (sum u v))
+          rest (inl (t, e)) = rw t (told_yes (after b e))
+          rest (inr (t, d)) = rw t (told_no (none_of d))
 
     module _ {u : ℕ} (hu : Remainder (2 ^ (n - 1)) g u) where
       pub told_alone : 1 ≤ rule → s ≡ u → Told true

@@ -1,19 +1,24 @@
 // The clocked reader of a cyclic code (Meggitt).
 #![tactic(auto)]
 
-ghost use Rattle.std.specs.Prelude.{◌≡◌, ◌+◌, ◌-◌, ◌*◌, ◌%◌, ◌≤◌, ◌<◌, length, get_or, take};
+ghost use Rattle.std.specs.Prelude.{◌≡◌, ◌+◌, ◌-◌, ◌*◌, ◌%◌, ◌≤◌, ◌<◌, length, IfSome, IfNone};
 ghost use Rattle.poly.specs.Poly.{sum};
 ghost use Rattle.poly.specs.Cells.{Cells};
 ghost use Rattle.poly.specs.Register.{held, low_shift, added};
 ghost use Rattle.verdict.specs.Verdict.{Tells};
+ghost use Rattle.verdict.specs.Refusal.{number, value};
 ghost use Rattle.codes.specs.Mending.{Pattern};
+ghost use Rattle.codes.specs.Row.{Given};
 ghost use Rattle.codes.specs.Coding.{First};
 ghost use Rattle.codes.specs.Calls.{DecodesCells};
-ghost use Rattle.reader.specs.Reader.{Row, InForm, fresh, Starts, Looks, Loads, Gives, Clocks, Answers};
+ghost use Rattle.reader.specs.Reader.{Row, InForm, fresh, started, clocked, Starts, Looks, Loads, Gives, Clocks, Answers};
 ghost use Rattle.reader.specs.Demand.{Reached};
 ghost use Rattle.reader.specs.Within.{Halves, Triggers};
 
+use verdict::Refusal;
+
 // A reader as it stands. Stage i is for x^i; the cells are stored first cell first.
+// The C interface (`plate_clock`) takes and hands back these fields: a row of 63 cells with n beside it, and the rule by its number.
 #[repr(C)]
 #[derive(Clone, Copy)]
 pub struct Reader {
@@ -26,29 +31,21 @@ pub struct Reader {
     pub cells: [u8; 63],
 }
 
-// What a start hands back: a number, and the reader.
-#[repr(C)]
+// A reader in form, and the degree of its generator.
 #[derive(Clone, Copy)]
-pub struct Started {
-    pub number: u64,
-    pub reader: Reader,
+struct Formed {
+    reader: Reader,
+    r: usize,
+    ghost given: { Given reader.n reader.g r },
+    ghost room: { r < reader.n },
+    ghost form: { ∥ InForm reader ∥₁ },
 }
 
-// What a clock hands back: a number, the cell given out, and the next reader.
-#[repr(C)]
+// What a clock hands back: the cell given out, and the next reader; a refused clock gives the reader back.
 #[derive(Clone, Copy)]
 pub struct Clocked {
-    pub number: u64,
-    pub cell: u8,
+    pub given: Result<u8, Refusal>,
     pub reader: Reader,
-}
-
-// What an answer hands back beside the lent message: a number, and the count of mended cells.
-#[repr(C)]
-#[derive(Clone, Copy)]
-pub struct Answer {
-    pub number: u64,
-    pub mended: u64,
 }
 
 // ---- the register
@@ -59,9 +56,7 @@ fn held_in(stages: [u8; 32]) -> u64
     ensures { result ≡ held stages }
 {
     let mut p: u64 = 0;
-    let mut i: usize = 32;
-    while 0 < i {
-        i -= 1;
+    for i in (0..32).rev() {
         p = p * 2 + (stages[i] as u64);
     }
     p
@@ -86,13 +81,11 @@ fn shift(stages: [u8; 32], input: u8, g: u64, r: usize) -> [u8; 32]
     let mut t = stages;
     let mut below = input;
     let mut rest = g;
-    let mut i: usize = 0;
-    while i < 32 {
-        let here = t[i];
-        t[i] = fed(below, rest, f);
+    for stage in t.iter_mut() {
+        let here = *stage;
+        *stage = fed(below, rest, f);
         below = here;
         rest = rest / 2;
-        i += 1;
     }
     t
 }
@@ -103,11 +96,9 @@ fn add(stages: [u8; 32], p: u64) -> [u8; 32]
 {
     let mut t = stages;
     let mut rest = p;
-    let mut i: usize = 0;
-    while i < 32 {
-        t[i] = fed(t[i], rest, 1);
+    for stage in t.iter_mut() {
+        *stage = fed(*stage, rest, 1);
         rest = rest / 2;
-        i += 1;
     }
     t
 }
@@ -123,318 +114,194 @@ fn halved(g: u64, s: u64) -> u64
     (s ^ g) / 2
 }
 
-// ---- in form
-
 // Whether the cells are 0 or 1, and 0 from place k on.
 fn row_fits(s: &[u8], k: usize) -> bool
     ensures { Tells (Row (length s.now) k s.now) result }
 {
-    let mut i: usize = 0;
-    while i < s.len() {
-        let c = s[i];
-        if 1 < c {
+    for (i, &c) in s.iter().enumerate() {
+        if 1 < c || k <= i && c != 0 {
             return false;
         }
-        if k <= i {
-            if c != 0 {
-                return false;
-            }
+    }
+    true
+}
+
+impl Formed {
+    // The reader, if it is in form.
+    fn new(reader: Reader) -> Option<Formed>
+        ensures some { IfSome result (λ formed. formed.reader ≡ reader) }
+        ensures none { IfNone result (InForm reader → ⊥) }
+    {
+        let Ok(code) = codes::Code::carrying(reader.n, reader.g, reader.rule) else {
+            return None;
+        };
+        let past = reader.clocks.saturating_sub(reader.n) as u64;
+        if 2 * reader.n < reader.clocks || past < reader.mended {
+            return None;
         }
-        i += 1;
+        if !row_fits(&reader.stages, code.r) || !row_fits(&reader.cells, reader.n) {
+            return None;
+        }
+        Some(Formed { reader, r: code.r })
     }
-    true
-}
 
-// The clocks past n.
-fn past(n: usize, clocks: usize) -> usize
-    ensures { result ≡ clocks - n }
-{
-    if n < clocks {
-        return clocks - n;
-    }
-    0
-}
+    // ---- one clock
 
-// Whether the reader is in form.
-fn in_form(reader: Reader) -> bool
-    ensures { Tells (InForm reader) result }
-{
-    let n = reader.n;
-    if codes::check_rule(n, reader.g, reader.rule) != 0 {
-        return false;
+    // Clock c up to n shifts the input in, stores it as the c-th cell and gives out 0.
+    fn load(self, input: u8) -> Clocked
+        requires { self.reader.clocks < self.reader.n }
+        ensures { (number result.given ≡ 0) × Loads self.reader input (clocked result) }
+    {
+        let mut next = self.reader;
+        next.cells[next.clocks] = input;
+        next.stages = shift(next.stages, input, next.g, self.r);
+        next.clocks += 1;
+        Clocked {
+            given: Ok(0),
+            reader: next,
+        }
     }
-    if 2 * n < reader.clocks {
-        return false;
-    }
-    if (past(n, reader.clocks) as u64) < reader.mended {
-        return false;
-    }
-    let stages = reader.stages;
-    if !row_fits(&stages, poly::degree_of(reader.g)) {
-        return false;
-    }
-    let cells = reader.cells;
-    if !row_fits(&cells, n) {
-        return false;
-    }
-    true
-}
 
-// ---- one clock
+    // Whether the register is the remainder of x^i times a pattern that has cell i. The ends are joined and x^n leaves 1, so what these patterns
+    // leave is the same for every cell: u, the remainder of x^(n-1), for the cell alone, u + 1 with the cell before it, and u + the remainder of
+    // x^(n-2) with the cell after it.
+    fn triggers(self) -> bool
+        ensures { Triggers self.reader result }
+    {
+        let Reader {
+            g,
+            rule,
+            stages,
+            ..
+        } = self.reader;
+        if rule == 0 {
+            return false;
+        }
+        let s = held_in(stages);
+        let u = halved(g, 1);
+        s == u || rule != 1 && (s == u ^ 1 || s == u ^ halved(g, u))
+    }
 
-// Clock c up to n shifts the input in, stores it as the c-th cell and gives out 0.
-fn load(reader: Reader, input: u8) -> Clocked
-    requires { InForm reader × (reader.clocks < reader.n) }
-    ensures { (result.number ≡ 0) × Loads reader input result }
-{
-    let at = reader.clocks;
-    let stages = reader.stages;
-    let mut next = reader;
-    next.stages = shift(stages, input, reader.g, poly::degree_of(reader.g));
-    next.cells[at] = input;
-    next.clocks = at + 1;
-    Clocked {
-        number: 0,
-        cell: 0,
-        reader: next,
+    // A look at cell i: if the register triggers there, the cell changes, is counted, and the remainder of x^(n-1) is added to the register.
+    fn look(self, i: usize) -> Reader
+        requires { i < self.reader.n }
+        ensures { Looks (Pattern self.reader.n self.reader.rule) self.reader i result }
+    {
+        let mut next = self.reader;
+        if self.triggers() {
+            next.stages = add(next.stages, halved(next.g, 1));
+            next.cells[i] ^= 1;
+            next.mended += 1;
+        }
+        next
     }
-}
 
-// Whether the register is the remainder of x^i times a pattern that has cell i. The ends are joined and x^n leaves 1, so what these patterns leave
-// is the same for every cell: u, the remainder of x^(n-1), for the cell alone, u + 1 with the cell before it, and u + the remainder of x^(n-2) with
-// the cell after it.
-fn triggers(reader: Reader) -> bool
-    requires { InForm reader }
-    ensures { Triggers reader result }
-{
-    if reader.rule == 0 {
-        return false;
-    }
-    let stages = reader.stages;
-    let s = held_in(stages);
-    let u = halved(reader.g, 1);
-    if s == u {
-        return true;
-    }
-    if reader.rule == 1 {
-        return false;
-    }
-    if s == u ^ 1 {
-        return true;
-    }
-    if s == u ^ halved(reader.g, u) {
-        return true;
-    }
-    false
-}
-
-// A look at cell i: if the register triggers there, the cell changes, is counted, and the remainder of x^(n-1) is added to the register.
-fn look(reader: Reader, i: usize) -> Reader
-    requires { InForm reader × (i < reader.n) }
-    ensures { Looks (Pattern reader.n reader.rule) reader i result }
-{
-    if !triggers(reader) {
-        return reader;
-    }
-    let stages = reader.stages;
-    let mut next = reader;
-    next.stages = add(stages, halved(reader.g, 1));
-    next.cells[i] = next.cells[i] ^ 1;
-    next.mended = reader.mended + 1;
-    next
-}
-
-// Clock n+j looks at the j-th cell; then 0 is shifted in and the stored cell given out.
-fn give(reader: Reader) -> Clocked
-    requires { InForm reader × (reader.n ≤ reader.clocks) × (reader.clocks < 2 * reader.n) }
-    ensures { (result.number ≡ 0) × Gives (Pattern reader.n reader.rule) reader (reader.clocks - reader.n) result }
-{
-    let i = reader.clocks - reader.n;
-    let mut next = look(reader, i);
-    let stages = next.stages;
-    next.stages = shift(stages, 0, reader.g, poly::degree_of(reader.g));
-    next.clocks = next.clocks + 1;
-    Clocked {
-        number: 0,
-        cell: next.cells[i],
-        reader: next,
-    }
-}
-
-// A clock that is refused: the reader as it was given.
-fn refused(reader: Reader, number: u64) -> Clocked
-    ensures { (result.number ≡ number) × (result.reader ≡ reader) × (result.cell ≡ 0) }
-{
-    Clocked {
-        number,
-        cell: 0,
-        reader,
-    }
-}
-
-// ---- the calls
-
-// A reader that stores zeros.
-fn empty(n: usize, g: u64, rule: u64) -> Reader
-    ensures { result ≡ fresh n g rule }
-{
-    Reader {
-        n,
-        g,
-        rule,
-        clocks: 0,
-        mended: 0,
-        stages: [0u8; 32],
-        cells: [0u8; 63],
-    }
-}
-
-// The first of the stored cells, as many as are lent.
-fn copy_first(cells: [u8; 63], message: &mut [u8])
-    requires { length message.old ≤ 63 }
-    ensures { message.new ≡ take (length message.old) cells }
-{
-    let mut i: usize = 0;
-    while i < message.len() {
-        message[i] = cells[i];
-        i += 1;
+    // Clock n+j looks at the j-th cell; then 0 is shifted in and the stored cell given out.
+    fn give(self) -> Clocked
+        requires { (self.reader.n ≤ self.reader.clocks) × (self.reader.clocks < 2 * self.reader.n) }
+        ensures { (number result.given ≡ 0) × Gives (Pattern self.reader.n self.reader.rule) self.reader (self.reader.clocks - self.reader.n) (clocked result) }
+    {
+        let i = self.reader.clocks - self.reader.n;
+        let mut next = self.look(i);
+        next.stages = shift(next.stages, 0, self.reader.g, self.r);
+        next.clocks += 1;
+        Clocked {
+            given: Ok(next.cells[i]),
+            reader: next,
+        }
     }
 }
 
 impl Reader {
-    // A start with n, g and a rule.
-    pub fn start(n: usize, g: u64, rule: u64) -> Started
-        ensures { Starts n g rule result }
+    // A clock that is refused: the reader as it was given.
+    fn refused(self, why: Refusal) -> Clocked
+        ensures { (result.given ≡ Err why) × (result.reader ≡ self) }
     {
-        let number = codes::check_rule(n, g, rule);
-        if number != 0 {
-            return Started {
-                number,
-                reader: empty(0, 0, 0),
-            };
+        Clocked {
+            given: Err(why),
+            reader: self,
         }
-        Started {
-            number: 0,
-            reader: empty(n, g, rule),
-        }
+    }
+
+    // ---- the calls
+
+    // A start with n, g and a rule: a reader that stores zeros.
+    pub fn start(n: usize, g: u64, rule: u64) -> Result<Reader, Refusal>
+        ensures { Starts n g rule (started result) }
+    {
+        codes::check_rule(n, g, rule)?;
+        Ok(Reader {
+            n,
+            g,
+            rule,
+            clocks: 0,
+            mended: 0,
+            stages: [0; 32],
+            cells: [0; 63],
+        })
     }
 
     // One clock takes the reader as it stands and gives the next.
     pub fn clock(self, cell: u8) -> Clocked
-        ensures { Clocks self cell result }
+        ensures { Clocks self cell (clocked result) }
     {
-        let n = self.n;
-        let at = self.clocks;
-        if !in_form(self) {
-            return refused(self, 11);
+        let Some(formed) = Formed::new(self) else {
+            return self.refused(Refusal::Form);
+        };
+        if 2 * self.n <= self.clocks {
+            return self.refused(Refusal::Form);
         }
-        if 2 * n <= at {
-            return refused(self, 11);
+        if 1 < cell || self.n <= self.clocks && cell != 0 {
+            return self.refused(Refusal::Cell);
         }
-        if 1 < cell {
-            return refused(self, 7);
+        if self.clocks < self.n {
+            formed.load(cell)
+        } else {
+            formed.give()
         }
-        if at < n {
-            return load(self, cell);
-        }
-        if cell != 0 {
-            return refused(self, 7);
-        }
-        give(self)
     }
 
     // After 2n clocks: the message, written into k lent cells, and the count of mended cells.
-    pub fn answer(self, message: &mut [u8]) -> Answer
-        ensures { Answers self message.old message.new result.number result.mended }
+    pub fn answer(self, message: &mut [u8]) -> Result<u64, Refusal>
+        ensures { Answers self message.old message.new (number result) (value result) }
     {
-        let n = self.n;
-        if !in_form(self) {
-            return Answer {
-                number: 11,
-                mended: 0,
-            };
+        let formed = Formed::new(self).ok_or(Refusal::Form)?;
+        if self.clocks != 2 * self.n {
+            return Err(Refusal::Form);
         }
-        if self.clocks != 2 * n {
-            return Answer {
-                number: 11,
-                mended: 0,
-            };
+        if message.len() != self.n - formed.r {
+            return Err(Refusal::Lent);
         }
-        if message.len() != n - poly::degree_of(self.g) {
-            return Answer {
-                number: 6,
-                mended: 0,
-            };
+        if held_in(self.stages) != 0 {
+            return Err(Refusal::Unreadable);
         }
-        let stages = self.stages;
-        if held_in(stages) != 0 {
-            return Answer {
-                number: 8,
-                mended: 0,
-            };
-        }
-        let cells = self.cells;
-        copy_first(cells, message);
-        Answer {
-            number: 0,
-            mended: self.mended,
-        }
+        message.copy_from_slice(&self.cells[..message.len()]);
+        Ok(self.mended)
     }
-}
-
-// Cell i of a word, and 0 past its end.
-fn cell_at(word: &[u8], i: usize) -> u8
-    ensures { result ≡ get_or word.now i 0 }
-{
-    if i < word.len() {
-        return word[i];
-    }
-    0
 }
 
 // A word's cells, and then zeros, into a reader that stores zeros: 2n clocks.
-fn through(first: Reader, n: usize, word: &[u8]) -> Reader
-    requires { (n ≤ 63) × (first ≡ fresh n first.g first.rule) }
-    ensures { Reached n first.g first.rule word.now (n + n) result }
+fn through(first: Reader, word: &[u8]) -> Reader
+    requires { (first.n ≤ 63) × (first ≡ fresh first.n first.g first.rule) }
+    ensures { Reached first.n first.g first.rule word.now (first.n + first.n) result }
 {
     let mut reader = first;
-    let mut i: usize = 0;
-    while i < 2 * n {
-        let clocked = reader.clock(cell_at(word, i));
-        reader = clocked.reader;
-        i += 1;
+    for i in 0..2 * first.n {
+        reader = reader.clock(word.get(i).copied().unwrap_or(0)).reader;
     }
     reader
 }
 
 // A lent word read by the clocked reader: started, clocked 2n times and asked for its answer.
-pub fn read(n: usize, g: u64, rule: u64, word: &[u8], message: &mut [u8]) -> Answer
-    ensures { DecodesCells First n g rule word.now message.old message.new result.number result.mended }
+pub fn read(n: usize, g: u64, rule: u64, word: &[u8], message: &mut [u8]) -> Result<u64, Refusal>
+    ensures { DecodesCells First n g rule word.now message.old message.new (number result) (value result) }
 {
-    let started = Reader::start(n, g, rule);
-    let number = started.number;
-    if number != 0 {
-        return Answer { number, mended: 0 };
-    }
-    if message.len() != n - poly::degree_of(g) {
-        return Answer {
-            number: 6,
-            mended: 0,
-        };
-    }
-    if word.len() != n {
-        return Answer {
-            number: 6,
-            mended: 0,
-        };
+    let first = Reader::start(n, g, rule)?;
+    if message.len() != n - poly::degree_of(g) || word.len() != n {
+        return Err(Refusal::Lent);
     }
     if cells::first_bad(word) < n {
-        return Answer {
-            number: 7,
-            mended: 0,
-        };
+        return Err(Refusal::Cell);
     }
-    let first = started.reader;
-    let last = through(first, n, word);
-    last.answer(message)
+    through(first, word).answer(message)
 }

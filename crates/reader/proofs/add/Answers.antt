@@ -1,22 +1,14 @@
 use mathlib.Core.Path.{refl, ◌∙◌}
-use lib.ListN.{length-set}
 use Rattle.poly.specs.Register.{added}
 use Rattle.reader.proofs.Filling.{sum_more, all_written}
-use borrow.Author.Rules.{rules}
 use native.Mathlib.Omega.{arith}
 use Rattle.reader.proofs.add.Goals as goal
 
-pub loop-i-init : goal.loop-i-init
-loop-i-init c = (search rules, search rules, refl)
-
-pub loop-i-preserved : goal.loop-i-preserved
-loop-i-preserved c =
-    let l = c.loop-i in (
-      search rules,
-      rw (length-set l.t l.i c.fed.result) l.invariant.1,
-      sum_more l.t l.i (omega arith) l.rest c.fed.ensures ∙ l.invariant.2,
-    )
+pub loop-stage-preserved : goal.loop-stage-preserved
+loop-stage-preserved c =
+    let l = c.loop-stage in
+    sum_more l.stage-items l.stage-index (omega arith) l.rest c.fed.ensures ∙ l.invariant
 
 pub returns : goal.returns
 unfolding added
-returns c = let l = c.loop-i in all_written (added l.rest) l.t l.i refl (omega (arith, l.invariant.1)) l.invariant.2
+returns c = let l = c.loop-stage in all_written (added l.rest) l.stage-items l.stage-index refl (omega arith) l.invariant

@@ -1,13 +1,10 @@
 -- A digit as a factor.
 use mathlib.Core.Path.{◌≡◌, sym}
 use Prim.Native.Nat.{◌%◌}
-use native.Mathlib.Nat.{one-mul, zero-mul}
+use native.Mathlib.Nat.{zero-mul}
 use native.Mathlib.Omega.{arith}
 use Rattle.poly.proofs.Sum.{sum-zero}
 use Rattle.reader.proofs.fed.Goals as goal
-
-pub returns-then-p-eq1 : goal.returns-then-p-eq1
-returns-then-p-eq1 c = rw (c.if-p-eq1.true, one-mul)
 
 pub returns : goal.returns
 returns c = let z : c.args.p % 2 ≡ 0 = omega arith in rw (z, zero-mul) (sym (sum-zero c.args.cell))

@@ -1,0 +1,16 @@
+-- The trigger decides, and what a mended reader has is written field by field.
+use mathlib.Core.Logic.{inl}
+use Rattle.reader.proofs.Form.{form_code, opened}
+use Rattle.reader.proofs.Rounds.{halved_effect}
+use Rattle.reader.proofs.Formed.look.Goals as goal
+
+pub returns-then-triggers : goal.returns-then-triggers
+returns-then-triggers c =
+    inl (
+      (c.triggers.ensures c.args.i c.requires).yes c.if-triggers.true,
+      record {
+        effect = c.halved.result;
+        remainder = halved_effect (form_code (opened c.args.self.form)) c.halved.ensures;
+        after = rw c.add-next.ensures;
+      },
+    )

@@ -1,6 +1,0 @@
--- Nothing is changed.
-use mathlib.Core.Path.{refl}
-use Rattle.reader.proofs.refused.Goals as goal
-
-pub returns : goal.returns
-returns c = (refl, refl, refl)
