@@ -21,7 +21,15 @@ use Rattle.codes.proofs.Checking.{Allowed, allowed_of, of_allowed}
 use Rattle.codes.proofs.Calls.{readable_passed}
 use Rattle.codes.proofs.Coding.{allowed_unique, first_unique}
 use Rattle.codes.proofs.Cutting.{first_number_lem, first_passed}
+use Rattle.std.specs.Prelude.{Result, Ok, Err}
+use Rattle.std.specs.Result.{result_ok}
+use Rattle.verdict.specs.Refusal.{number}
+use Rattle.verdict.specs.declared.Refusal.{Refusal}
 use Rattle.numbers.specs.declared.Decoding.{Decoding}
+use Rattle.numbers.specs.Results.{message, mended}
+use Rattle.readings.specs.declared.Taken.{Taken}
+use Rattle.readings.specs.declared.Taken.TheVariants.{First as TakenFirst, Second as TakenSecond}
+use Rattle.readings.specs.Taken.{taken_in, taken_number}
 use Rattle.readings.specs.Readings.{Agree, SecondWord, alone, fewer, FirstWord, only, enough, both_check, cells_check, words_checks, message_checks, reading_checks, TakesFirst, TakesSecond, Numbered, Picks}
 use Rattle.readings.specs.Within.{Weighs, neither, only_second, only_first, differ, Chosen}
 use Rattle.readings.specs.Within.{fewer as weighs-fewer, enough as weighs-enough}
@@ -29,15 +37,15 @@ use Rattle.readings.specs.Within.{fewer as weighs-fewer, enough as weighs-enough
 -- ---- one word: what its decoding says
 
 module _ {n g rule : ℕ} (a : Allowed n g rule) where
-  module _ {p : ℕ} (w : List ℕ) (x : Decoding) (h : Decodes First n g rule p x.number x.message x.mended) (long : length w ≡ n) (fine : Cells w)
+  module _ {p : ℕ} (w : List ℕ) (x : Result Decoding Refusal) (h : Decodes First n g rule p (number x) (message x) (mended x)) (long : length w ≡ n) (fine : Cells w)
       (v : Where ((length w ≤ 63) × Cells w) (p ≡ poly w) (p ≡ 0)) where
     stands : p ≡ poly w
     stands = v.holds (omega (arith, a.code.most, long), fine)
 
-    pub read : x.number ≡ 0 → Decoded (Pattern n rule) (First g) n g (poly w) x.message x.mended
+    pub read : number x ≡ 0 → Decoded (Pattern n rule) (First g) n g (poly w) (message x) (mended x)
     read e = rw stands at (h.done e)
 
-    pub unread : (x.number ≡ 0 → ⊥) → Readable (Pattern n rule) n g (poly w) → ⊥
+    pub unread : (number x ≡ 0 → ⊥) → Readable (Pattern n rule) n g (poly w) → ⊥
     unread f r =
         let below : p < 2 ^ n = rw (stands, ← long) (poly_lt w fine) in f (settles_done h (readable_passed a below (rw stands r))).0
 
@@ -147,19 +155,19 @@ module _ (n g rule : ℕ) (a b : List ℕ) where
       decides m = verdict_on (words_checks n g rule a b) (message_checks n g rule a b) m right
 
       -- by the two decodings
-      module _ {p q : ℕ} (x y : Decoding) (dx : Decodes First n g rule p x.number x.message x.mended)
-          (dy : Decodes First n g rule q y.number y.message y.mended) (vx : Where ((length a ≤ 63) × Cells a) (p ≡ poly a) (p ≡ 0))
+      module _ {p q : ℕ} (x y : Result Decoding Refusal) (dx : Decodes First n g rule p (number x) (message x) (mended x))
+          (dy : Decodes First n g rule q (number y) (message y) (mended y)) (vx : Where ((length a ≤ 63) × Cells a) (p ≡ poly a) (p ≡ 0))
           (vy : Where ((length b ≤ 63) × Cells b) (q ≡ poly b) (q ≡ 0)) where
-        rx : x.number ≡ 0 → Decoded (Pattern n rule) (First g) n g (poly a) x.message x.mended
+        rx : number x ≡ 0 → Decoded (Pattern n rule) (First g) n g (poly a) (message x) (mended x)
         rx = read h a x dx long.0 fine.0 vx
 
-        ry : y.number ≡ 0 → Decoded (Pattern n rule) (First g) n g (poly b) y.message y.mended
+        ry : number y ≡ 0 → Decoded (Pattern n rule) (First g) n g (poly b) (message y) (mended y)
         ry = read h b y dy long.1 fine.1 vy
 
-        ux : (x.number ≡ 0 → ⊥) → Readable (Pattern n rule) n g (poly a) → ⊥
+        ux : (number x ≡ 0 → ⊥) → Readable (Pattern n rule) n g (poly a) → ⊥
         ux = unread h a x dx long.0 fine.0 vx
 
-        uy : (y.number ≡ 0 → ⊥) → Readable (Pattern n rule) n g (poly b) → ⊥
+        uy : (number y ≡ 0 → ⊥) → Readable (Pattern n rule) n g (poly b) → ⊥
         uy = unread h b y dy long.1 fine.1 vy
 
         -- the messages agree, or one of the words has none
@@ -190,7 +198,7 @@ module _ (n g rule : ℕ) (a b : List ℕ) where
             first_chosen (fine_with (inl (decoded_readable h (rx e))) (λ c d k l s t. absurd (uy f (d, t)))) (right, only (decoded_readable h (rx e)) (uy f))
         weighed (differ e i f) =
             none_chosen (λ z. omega (arith, z))
-            (decides 10 (inl ((λ s. f (s (rx e).code (ry i).code x.message y.message (rx e).mends (ry i).mends (rx e).message (ry i).message)), refl)))
+            (decides 10 (inl ((λ s. f (s (rx e).code (ry i).code (message x) (message y) (rx e).mends (ry i).mends (rx e).message (ry i).message)), refl)))
             (λ t. not_first t.1) (λ t. not_second t.1)
           where
             not_first : FirstWord (Pattern n rule) n g (poly a) (poly b) → ⊥
@@ -232,6 +240,13 @@ module _ {A : Type 0} {n g rule m w : ℕ} {a b : List ℕ} (x : Chosen n g rule
   picks_none picked i j e =
       let none = x.none i j in
       record { takes_first = λ t. absurd (none.0 t); takes_second = λ t. absurd (none.1 t); takes_none = λ f h. e }
+
+-- which of the two, as a number
+pub picks_word : {n g rule : ℕ} {a b : List ℕ} (r : Result Taken Refusal) → Chosen n g rule a b (number r) (taken_in r)
+    → Picks n g rule a b 1 2 (λ h. h ≡ 0) (taken_number (result_ok r))
+picks_word (Ok TakenFirst) x = picks_first x 1 2 (λ h. h ≡ 0) refl
+picks_word (Ok TakenSecond) x = picks_second x 1 2 (λ h. h ≡ 0) refl
+picks_word (Err e) x = picks_none x 1 2 (λ h. h ≡ 0) 0 one_zero two_zero refl
 
 -- the number is 0 exactly if a word is taken
 pub number_chosen : {n g rule m w : ℕ} (a b : List ℕ) → Chosen n g rule a b m w

@@ -1,17 +1,20 @@
 -- What private functions promise. Assumes nothing.
-use Rattle.std.specs.Prelude.{◌≡◌, List, ℕ, ◌≤◌, ◌<◌}
+use Rattle.std.specs.Prelude.{◌≡◌, Result, List, ℕ, ◌≤◌, ◌<◌}
 use Rattle.numbers.specs.declared.Decoding.{Decoding}
+use Rattle.numbers.specs.Results.{message, mended}
+use Rattle.verdict.specs.Refusal.{number}
+use Rattle.verdict.specs.declared.Refusal.{Refusal}
 use Rattle.verdict.specs.Verdict.{Verdict}
 use Rattle.readings.specs.Readings.{reading_checks, TakesFirst, TakesSecond}
 
 -- Two decodings weighed: the number, and which word, 1 or 2, or none.
-pub data Weighs (x y : Decoding) : ℕ → ℕ → Type 0 where
-  neither : (x.number ≡ 0 → ⊥) → (y.number ≡ 0 → ⊥) → Weighs x y 8 0
-  only_second : (x.number ≡ 0 → ⊥) → y.number ≡ 0 → Weighs x y 0 2
-  only_first : x.number ≡ 0 → (y.number ≡ 0 → ⊥) → Weighs x y 0 1
-  differ : x.number ≡ 0 → y.number ≡ 0 → (x.message ≡ y.message → ⊥) → Weighs x y 10 0
-  fewer : x.number ≡ 0 → y.number ≡ 0 → x.message ≡ y.message → y.mended < x.mended → Weighs x y 0 2
-  enough : x.number ≡ 0 → y.number ≡ 0 → x.message ≡ y.message → x.mended ≤ y.mended → Weighs x y 0 1
+pub data Weighs (x y : Result Decoding Refusal) : ℕ → ℕ → Type 0 where
+  neither : (number x ≡ 0 → ⊥) → (number y ≡ 0 → ⊥) → Weighs x y 8 0
+  only_second : (number x ≡ 0 → ⊥) → number y ≡ 0 → Weighs x y 0 2
+  only_first : number x ≡ 0 → (number y ≡ 0 → ⊥) → Weighs x y 0 1
+  differ : number x ≡ 0 → number y ≡ 0 → (message x ≡ message y → ⊥) → Weighs x y 10 0
+  fewer : number x ≡ 0 → number y ≡ 0 → message x ≡ message y → mended y < mended x → Weighs x y 0 2
+  enough : number x ≡ 0 → number y ≡ 0 → message x ≡ message y → mended x ≤ mended y → Weighs x y 0 1
 
 -- The number of two readings, and which word is taken.
 pub record Chosen (n g rule : ℕ) (a b : List ℕ) (number word : ℕ) : Type 0 where

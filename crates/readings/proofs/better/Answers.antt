@@ -1,18 +1,16 @@
 -- The word chosen is the slice that was lent; else its first no cells.
 use mathlib.Core.List.{[]}
-use mathlib.Core.Path.{◌≡◌, refl}
+use mathlib.Core.Path.{◌≡◌, refl, ap}
+use native.Mathlib.Omega.{arith}
+use Rattle.readings.specs.Taken.{word_number}
 use Rattle.readings.proofs.Choosing.{picks_first, picks_second, picks_none}
 use Rattle.readings.proofs.better.Goals as goal
 
-pub returns-then-c-eq1 : goal.returns-then-c-eq1
-returns-then-c-eq1 c = let x = c.before.before in let s = x.before.before.before in picks_first x.choose-c.ensures s.args.first s.args.second (λ h. h.now ≡ []) c.if-c-eq1.true
+pub returns-in-Ok-First : goal.returns-in-Ok-First
+returns-in-Ok-First c = picks_first (rw c.in-Ok-First.is at c.choose.ensures) c.args.first c.args.second (λ h. h.now ≡ []) (ap word_number c.in-Ok-First.field-0-is)
 
-pub returns-then-c-eq2 : goal.returns-then-c-eq2
-returns-then-c-eq2 c = let x = c.before.before.before.before in let s = x.before.before.before in picks_second x.choose-c.ensures s.args.first s.args.second (λ h. h.now ≡ []) c.if-c-eq2.true
+pub returns-in-Ok-Second : goal.returns-in-Ok-Second
+returns-in-Ok-Second c = picks_second (rw c.in-Ok-Second.is at c.choose.ensures) c.args.first c.args.second (λ h. h.now ≡ []) (ap word_number c.in-Ok-Second.field-0-is)
 
-pub returns : goal.returns
-returns c =
-    let e = c.before.before.before in
-    let x = e.before.before in
-    let s = x.before.before.before in
-    picks_none x.choose-c.ensures s.args.first s.args.second (λ h. h.now ≡ []) _ e.if-c-eq1.false c.if-c-eq2.false refl
+pub returns-in-Err : goal.returns-in-Err
+returns-in-Err c = picks_none (rw c.in-Err.is at c.choose.ensures) c.args.first c.args.second (λ h. h.now ≡ []) _ (λ e. omega (arith, e)) (λ e. omega (arith, e)) refl
