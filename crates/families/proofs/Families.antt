@@ -4,11 +4,11 @@ use mathlib.Core.Path.{◌≡◌, refl, sym, ap, ◌∙◌}
 use mathlib.Core.Bool.{Bool, true, false, not, cond, ◌&&◌}
 use mathlib.Core.List.{List, [], ◌∷◌}
 use Prim.Native.Nat.{ℕ, zero, suc, ◌+◌, ◌-◌, ◌%◌, ◌^◌, ◌≤◌, ◌<◌}
-use native.Mathlib.Nat.{le_of_suc-le-suc, not-suc-le-zero}
+use native.Mathlib.Nat.{not-suc-le-zero}
 use native.Mathlib.Numerals.{add-one}
 use native.Mathlib.Omega.{arith}
 use lib.Dec.{T, leb, ltb, eqb, leb→le, ltb→lt, eqb→eq}
-use lib.ListN.{length, get_or, get_or-eq_default}
+use lib.ListN.{get_or}
 use Rattle.poly.specs.Poly.{sum, Degree}
 use Rattle.poly.proofs.Computed.{degree, divide}
 use Rattle.poly.proofs.Degree.{degree_of_lem, degree_unique, power_lt}
@@ -145,12 +145,7 @@ module _ (i : ℕ) (l : i < 12) where
 -- ---- numbered from 1
 
 module _ {A : Type 0} (none : A) (row : List A) where
-  -- beyond the table there is nothing
-  pub beyond : (f : ℕ) → length row < f → numbered none row f ≡ none
-  beyond zero l = refl
-  beyond (suc i) l = get_or-eq_default row none (le_of_suc-le-suc l)
-
-  -- and in it the entry
+  -- from 1 on, what is in the row
   pub within : (f : ℕ) → 1 ≤ f → numbered none row f ≡ get_or row (f - 1) none
   within zero l = absurd (not-suc-le-zero l)
   within (suc i) l = ap (λ (k : ℕ). get_or row k none) (let e : i ≡ suc i - 1 = omega arith in e)

@@ -119,7 +119,7 @@ module _ (f word : ℕ) where
 
 -- ---- two results of one call
 
-packed_same : {g r p d e : ℕ} → Packed g r p d → Packed g r p e → d ≡ e
+pub packed_same : {g r p d e : ℕ} → Packed g r p d → Packed g r p e → d ≡ e
 packed_same {r = r} {d = d} {e = e} a b =
     sym (split d r)
     ∙ ap₂ (λ (q s : ℕ). q * 2 ^ r + s) (quotient_unique a.divided b.divided) (remainder_unique (packed_remainder a) (packed_remainder b))

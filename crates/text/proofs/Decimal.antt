@@ -4,7 +4,7 @@ use mathlib.Core.Path.{◌≡◌, refl, sym, ap, ◌∙◌}
 use mathlib.Core.List.{List, [], ◌∷◌, ◌++◌, append_assoc, append-nil}
 use mathlib.Core.Logic.{⊎_elim}
 use Prim.Native.Nat.{ℕ, zero, suc, ◌+◌, ◌*◌, ◌/◌, ◌%◌, ◌^◌, ◌<◌, ◌≤◌}
-use native.Mathlib.Nat.{not-suc-le-zero, pow-suc, one-le-pow, div-one, div-div-eq-div-mul, mul_comm}
+use native.Mathlib.Nat.{not-suc-le-zero, pow-suc, one-le-pow, div-one, div-div-eq-div-mul, div-lt_iff_lt-mul, add_comm, mul_comm}
 use native.Mathlib.Numerals.{add-one}
 use native.Mathlib.Omega.{arith}
 use lib.Dec.{ltb, lit<}
@@ -60,6 +60,12 @@ lowest_four n w e =
 
 pub decimal_longer : (k n : ℕ) → 10 ^ k ≤ n → length (decimal n) ≡ length (decimal (n / 10 ^ k)) + k
 decimal_longer k n h = rw (decimal_split k n h, length-append, lowest_length)
+
+-- one from ten to the k on and below ten times that has k + 1
+pub decimal_between : (k n : ℕ) → 10 ^ k ≤ n → n < 10 * 10 ^ k → length (decimal n) ≡ k + 1
+decimal_between k n h l =
+    let small : n / 10 ^ k < 10 = (div-lt_iff_lt-mul (one-le-pow k 10 (lit< tt))).1 l in
+    rw (decimal_longer k n h, decimal_one (n / 10 ^ k) small) (add_comm 1 k)
 
 -- a number has a digit
 pub decimal_some : (n : ℕ) → 1 ≤ length (decimal n)

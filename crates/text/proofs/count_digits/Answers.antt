@@ -1,30 +1,16 @@
-use mathlib.Core.Path.{◌≡◌}
-use native.Mathlib.Omega.{arith}
-use lib.ListN.{length}
+-- The whole logarithm is one less than the count. 0 has as many digits as 1, of which it is taken.
+use Rattle.std.proofs.Common.{◌≡◌, ◌∙◌, ◌≤◌, ◌<◌, sym, length, ⊎_elim, arith}
 use Rattle.text.specs.Text.{decimal}
-use Rattle.text.proofs.Decimal.{decimal_one, decimal_longer, decimal_most_64}
+use Rattle.text.proofs.Order.{le_or_lt}
+use Rattle.text.proofs.Decimal.{decimal_one, decimal_between}
 use Rattle.text.proofs.count_digits.Goals as goal
-
-pub loop-v-init : goal.loop-v-init
-loop-v-init c = omega arith
-
-pub overflow_add-digits : goal.overflow_add-digits
-overflow_add-digits c = omega (arith, c.loop-v.invariant, decimal_most_64 c.args.value c.ranges.value.fits)
-
-pub loop-v-preserved : goal.loop-v-preserved
-loop-v-preserved c = omega (arith, c.loop-v.invariant, decimal_longer 4 c.loop-v.v c.loop-v-test.true)
-
-pub loop-v-2-init : goal.loop-v-2-init
-loop-v-2-init c = c.loop-v.invariant
-
-pub overflow_add-digits-in-loop-v-2 : goal.overflow_add-digits-in-loop-v-2
-overflow_add-digits-in-loop-v-2 c = omega (arith, c.loop-v-2.invariant, decimal_most_64 c.args.value c.ranges.value.fits)
-
-pub loop-v-2-preserved : goal.loop-v-2-preserved
-loop-v-2-preserved c = omega (arith, c.loop-v-2.invariant, decimal_longer 1 c.loop-v-2.v c.loop-v-2-test.true)
 
 pub returns : goal.returns
 returns c =
-    let l = c.loop-v-2 in
-    let one : length (decimal l.v) ≡ 1 = rw (decimal_one l.v c.loop-v-2-test.false) in
-    omega (arith, l.invariant, one)
+    let v = c.args.value in
+    let log = c.ilog10.ensures in
+    let same : length (decimal c.max.result) ≡ length (decimal v) =
+    ⊎_elim (λ (m : 1 ≤ v). let e : c.max.result ≡ v = omega arith in rw e)
+    (λ (s : v < 1). let e : c.max.result ≡ 1 = omega arith in rw (e, decimal_one 1 (omega arith), decimal_one v (omega arith)))
+    (le_or_lt 1 v) in
+    sym (decimal_between c.ilog10.result c.max.result log.power_le log.next_power_gt) ∙ same
