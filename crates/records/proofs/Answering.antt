@@ -9,9 +9,9 @@ use native.Mathlib.Nat.{mul-le-mul, zero-div, div-eq_of_lt, lt_of_lt_of_le}
 use native.Mathlib.Omega.{arith}
 use borrow.Author.Tests.{eqb-true, eqb-false}
 use lib.Count.{ones}
-use lib.Dec.{eqb}
+use lib.Dec.{eqb, lit<}
 use lib.ListN.{get_or}
-use lib.Pow.{pow_mono, shl_lt}
+use lib.Pow.{pow_pos, pow_mono, shl_lt}
 use Rattle.poly.specs.Poly.{sum, times, Degree, Remainder}
 use Rattle.poly.proofs.Degree.{high_zero}
 use Rattle.poly.proofs.Division.{lower_zero, divided_lower, quotient_unique}
@@ -23,12 +23,15 @@ use Rattle.codes.specs.Coding.{Systematic, Product, First}
 use Rattle.codes.specs.Row.{pattern_at, pattern_count}
 use Rattle.codes.specs.Finding.{FindsCode}
 use Rattle.codes.proofs.Checking.{Code, Allowed, of_code, generator_pos}
-use Rattle.codes.proofs.Calls.{code_shorter, message_fits, encodes_done, leaves_done}
+use Rattle.codes.specs.Calls.{MessageFits}
+use Rattle.codes.proofs.Calls.{code_shorter, message_fits, message_below, encodes_done, leaves_done}
 use Rattle.codes.proofs.Coding.{quotient_product}
 use Rattle.codes.proofs.Finding.{code_refused, pattern_found, none_found, found_divides, found_decodes}
 use Rattle.families.specs.Families.{generators, pairs}
 use Rattle.families.proofs.Families.{family_shown, family_code, family_long}
 use Rattle.tables.specs.Tables.{Packed, Place, Places, Family, highest}
+use Rattle.tables.specs.declared.Plate.{Plate}
+use Rattle.tables.proofs.Packing.{packed_lower}
 use Rattle.tables.proofs.Entering.{remainder_small}
 use Rattle.tables.proofs.Reading.{highest_carried, rule_carried, place_found, place_missing}
 use Rattle.records.specs.Records.{Job, E, P, S, D, Q, RuleFits, WordFits, Calls}
@@ -64,20 +67,23 @@ module _ {n g r : ℕ} (c : Code n g) (h : Degree g r) where
 
   -- ---- encoders, and the remainder
 
-  pub answers_systematic : (rule d : ℕ) {s : ℕ} → rule ≡ 0 → d < 2 ^ (n - r) → Remainder (d * 2 ^ r) g s
+  -- what number 9 tests of a message
+  pub tells_message : {A : Type 0} (d : ℕ) → A → Tells (A × MessageFits n g d) (eqb (d / 2 ^ (n - r)) 0)
+  tells_message d a =
+      let t = tells_below d (n - r) a in
+      record { yes = λ e. let k = t.yes e in (k.0, message_fits c h k.1); no = λ e k. t.no e (k.0, message_below c h k.1) }
+
+  pub answers_systematic : (rule d : ℕ) {s : ℕ} → RuleFits E rule × WordFits E n g d → Remainder (d * 2 ^ r) g s
       → Answered E n g rule d 0 0 (sum (d * 2 ^ r) s)
-  answers_systematic rule d {s} o z v =
-      let m = message_fits c h z in
-      called E o m (omega arith) (omega arith)
-      (encodes_done c Systematic m (record { r = r; degree = h; rest = s; remainder = v; word = refl }), refl)
+  answers_systematic rule d {s} a v =
+      called E a.0 a.1 (omega arith) (omega arith)
+      (encodes_done c Systematic a.1 (record { r = r; degree = h; rest = s; remainder = v; word = refl }), refl)
 
-  pub answers_product : (rule d : ℕ) {v : ℕ} → rule ≡ 0 → d < 2 ^ (n - r) → v ≡ times d g → Answered P n g rule d 0 0 v
-  answers_product rule d o z e =
-      let m = message_fits c h z in called P o m (omega arith) (omega arith) (encodes_done c Product m e, refl)
+  pub answers_product : (rule d : ℕ) {v : ℕ} → RuleFits P rule × WordFits P n g d → v ≡ times d g → Answered P n g rule d 0 0 v
+  answers_product rule d a e = called P a.0 a.1 (omega arith) (omega arith) (encodes_done c Product a.1 e, refl)
 
-  pub answers_remainder : (rule w : ℕ) {s : ℕ} → rule ≡ 0 → w < 2 ^ n → Remainder w g s → Answered S n g rule w 0 0 s
-  answers_remainder rule w o l v =
-      called S o l (omega arith) (omega arith) (leaves_done c l v, refl)
+  pub answers_remainder : (rule w : ℕ) {s : ℕ} → RuleFits S rule × WordFits S n g w → Remainder w g s → Answered S n g rule w 0 0 s
+  answers_remainder rule w a v = called S a.0 a.1 (omega arith) (omega arith) (leaves_done c a.1 v, refl)
 
   -- ---- decoders: the message of the mended word
 
@@ -97,6 +103,13 @@ module _ {n g r : ℕ} (c : Code n g) (h : Degree g r) where
   answers_quotient rule w e z l m s a =
       called Q tt z l m
       (found_decodes s Product (λ o. quotient_product pos a.divided (found_divides s o)) (λ f. quotient_none a (s.refused f).0))
+
+  -- and a refusal is handed on
+  pub refused_first : (rule w : ℕ) {number : ℕ} → w < 2 ^ n → number < 10 → FindsCode n g rule w number 0 0 → Answered D n g rule w number 0 0
+  refused_first rule w z l s = rw zero-div at (answers_first rule w z l (lit< tt) s)
+
+  pub refused_quotient : (rule w : ℕ) {number : ℕ} → w < 2 ^ n → number < 10 → FindsCode n g rule w number 0 0 → Answered Q n g rule w number 0 0
+  refused_quotient rule w z l s = rw zero-div at (answers_quotient rule w 0 z l (lit< tt) s (packed_lower h (pow_pos r)))
 
 -- ---- mending
 
@@ -156,3 +169,7 @@ module _ {f n r : ℕ} (h : Family f n r) where
       -- it is a place of the row
       pub entry_within : get_or t (f * 2048 + s) 0 ≤ n * rule → get_or t (f * 2048 + s) 0 ≤ 2 * n
       entry_within b = omega (arith, mul-le-mul (let k : n ≤ n = omega arith in k) known)
+
+-- the code of a plate
+pub plate_code : (p : Plate) → Code p.n p.g
+plate_code p = rw p.generator (checked p.family)

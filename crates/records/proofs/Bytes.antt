@@ -1,42 +1,24 @@
--- Bytes read as a number, from the front.
+-- The bytes of a record that are numbers, read one by one.
 -- Assumes nothing.
-use mathlib.Core.Path.{◌≡◌, sym, ap, ◌∙◌}
-use mathlib.Core.List.{List}
-use Prim.Native.Nat.{ℕ, suc, ◌+◌, ◌-◌, ◌*◌, ◌^◌, ◌≤◌, ◌<◌}
-use native.Mathlib.Nat.{pow-suc, zero-mul, zero-add, pow-le-pow_right}
-use native.Mathlib.Numerals.{add-one}
-use native.Mathlib.Omega.{arith}
-use lib.Arith.{digits_lt}
-use lib.Dec.{lit<}
-use lib.ListN.{length, get_or, drop, length-drop, drop_of_length-le}
+use Rattle.std.proofs.Common.{◌≡◌, ℕ, zero, suc, ◌+◌, ◌≤◌, List, [], ◌∷◌, length, get_or, take, drop, refl, ap, ◌∙◌, arith}
+use Rattle.std.proofs.Math.Numerals.{add-one}
 use lib.Seq.{drop-cons}
+use Rattle.std.specs.Int.{from_be_bytes, w32, w64}
 use Rattle.records.specs.Records.{big_endian}
 
-module _ (s : List ℕ) where
-  -- v is what the first i bytes stand for
-  abbrev pub Read : ℕ → ℕ → Type 0
-  Read i v = big_endian s ≡ v * 256 ^ (length s - i) + big_endian (drop i s)
+-- k entries from place i on
+abbrev entries : ℕ → ℕ → List ℕ → List ℕ
+entries zero i s = []
+entries (suc k) i s = get_or s i 0 ∷ entries k (i + 1) s
 
-  pub read_none : Read 0 0
-  read_none = rw (zero-mul, zero-add)
+entries_taken : (k i : ℕ) (s : List ℕ) → i + k ≤ length s → take k (drop i s) ≡ entries k i s
+entries_taken zero i s l = refl
+entries_taken (suc k) i s l =
+    ap (take (suc k)) (drop-cons s i 0 (omega arith)) ∙ ap (λ t. get_or s i 0 ∷ t) (rw (← add-one i) (entries_taken k (i + 1) s (omega arith)))
 
-  pub read_more : (i v : ℕ) → i < length s → Read i v → Read (i + 1) (v * 256 + get_or s i 0)
-  read_more i v l h =
-      let k = length s - (i + 1) in
-      let rest : length s - i ≡ suc k = omega arith in
-      let left : length (drop (suc i) s) ≡ k = length-drop (suc i) s ∙ omega arith in
-      let next : big_endian (drop i s) ≡ get_or s i 0 * 256 ^ k + big_endian (drop (suc i) s) =
-      ap big_endian (drop-cons s i 0 l) ∙ ap (λ (x : ℕ). get_or s i 0 * 256 ^ x + big_endian (drop (suc i) s)) left in
-      h ∙ rw (rest, pow-suc 256 k, next, add-one i) (omega arith)
+module _ (s : List ℕ) (long : length s ≡ 16) where
+  pub station_bytes : from_be_bytes w32 (entries 4 4 s) ≡ big_endian (take 4 (drop 4 s))
+  station_bytes = rw (entries_taken 4 4 s (omega arith)) (omega arith)
 
-  pub read_all : (i v : ℕ) → length s ≤ i → Read i v → v ≡ big_endian s
-  read_all i v l h =
-      let none : length s - i ≡ 0 = omega arith in
-      sym (h ∙ rw (none, drop_of_length-le s l) (omega arith))
-
--- and it fits
-pub read_fits : (i v b : ℕ) → i < 8 → v < 256 ^ i → b < 256 → (v * 256 < 2 ^ 64) × (v * 256 + b < 256 ^ (i + 1)) × (v * 256 + b < 2 ^ 64)
-read_fits i v b l h k =
-    let more : v * 256 + b < 256 ^ (i + 1) = rw (add-one i, pow-suc 256 i) (digits_lt h k) in
-    let most : 256 ^ (i + 1) ≤ 256 ^ 8 = pow-le-pow_right (lit< tt) {j = 8} (omega arith) in
-    (omega arith, more, omega arith)
+  pub word_bytes : from_be_bytes w64 (entries 8 8 s) ≡ big_endian (take 8 (drop 8 s))
+  word_bytes = rw (entries_taken 8 8 s (omega arith)) (omega arith)

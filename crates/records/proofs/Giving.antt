@@ -2,9 +2,12 @@
 -- Assumes nothing.
 use mathlib.Core.Path.{◌≡◌, refl, sym, ap, ◌∙◌}
 use mathlib.Core.Bool.{cond}
-use Prim.Native.Nat.{ℕ, ◌≤◌}
+use Prim.Native.Nat.{ℕ, ◌+◌}
+use native.Mathlib.Omega.{arith}
 use lib.Dec.{eqb}
-use Rattle.families.specs.Families.{length_of, generator_of}
+use Rattle.families.specs.Families.{lengths, generators, length_of, generator_of}
+use Rattle.families.proofs.Families.{entry}
+use Rattle.tables.specs.declared.Plate.{Plate}
 use Rattle.records.specs.Records.{Record, Job, E, P, S, D, Q, letter_of, Allowed, Gives}
 use Rattle.records.specs.Steps.{Answered}
 
@@ -27,18 +30,15 @@ letter_job a b e = sym (job_letter a) ∙ ap job_of e ∙ job_letter b
 pub gives_none : {x : Record} → ((job : Job) → Allowed x job → ⊥) → Gives x 9 0 0
 gives_none f = record { refused = λ _. (refl, refl, refl); done = λ job a. absurd (f job a) }
 
--- a letter that is none of the five
-pub other : {b : ℕ} → (b ≡ 69 → ⊥) → (b ≡ 80 → ⊥) → (b ≡ 83 → ⊥) → (b ≡ 68 → ⊥) → (b ≡ 81 → ⊥) → (job : Job) → b ≡ letter_of job → ⊥
-other e p s d q E = e
-other e p s d q P = p
-other e p s d q S = s
-other e p s d q D = d
-other e p s d q Q = q
-
--- a letter, a family and a zero byte: the job decides
-pub gives_job : (x : Record) (job : Job) {number count value : ℕ} → x.letter ≡ letter_of job → 1 ≤ x.family → x.family ≤ 12 → x.spare ≡ 0
-    → Answered job (length_of x.family) (generator_of x.family) x.rule x.word number count value → Gives x number count value
-gives_job x job letter least most spare a = record {
-  refused = λ none. a.refused λ rule word. none job (record { letter = letter; least = least; most = most; spare = spare; rule = rule; word = word });
-  done = λ other b. let same = letter_job other job (sym b.letter ∙ letter) in rw same (a.done (rw same at b.rule) (rw same at b.word));
-}
+-- a letter, a plate and a zero byte: the job decides
+pub gives_job : (x : Record) (job : Job) (p : Plate) {number count value : ℕ} → x.letter ≡ letter_of job → p.f + 1 ≡ x.family → x.spare ≡ 0
+    → Answered job p.n p.g x.rule x.word number count value → Gives x number count value
+gives_job x job p {number} {count} {value} letter family spare known =
+    let cells : length_of x.family ≡ p.n = ap length_of (sym family) ∙ entry 0 lengths p.f ∙ sym p.family.length in
+    let generator : generator_of x.family ≡ p.g = ap generator_of (sym family) ∙ entry 0 generators p.f ∙ sym p.generator in
+    let a : Answered job (length_of x.family) (generator_of x.family) x.rule x.word number count value = rw (cells, generator) known in
+    record {
+      refused = λ none. a.refused λ rule word.
+          none job (record { letter = letter; least = omega arith; most = omega (arith, p.family.row); spare = spare; rule = rule; word = word });
+      done = λ other b. let same = letter_job other job (sym b.letter ∙ letter) in rw same (a.done (rw same at b.rule) (rw same at b.word));
+    }

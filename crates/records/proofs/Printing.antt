@@ -1,11 +1,13 @@
 -- A block of records: line after line, and what is left over.
 -- Assumes nothing.
-use mathlib.Core.Path.{◌≡◌, refl, sym, ap₂, subst, ◌∙◌}
+use mathlib.Core.Path.{◌≡◌, refl, sym, ap, subst, ◌∙◌}
 use mathlib.Core.List.{List, [], ◌++◌, append_assoc, append-nil}
 use mathlib.Core.Logic.{◌⊎◌, inl, inr}
-use Prim.Native.Nat.{ℕ, ◌+◌, ◌-◌, ◌*◌, ◌/◌, ◌%◌, ◌≤◌, ◌<◌}
+use Prim.Native.Nat.{ℕ, zero, suc, ◌+◌, ◌-◌, ◌*◌, ◌/◌, ◌%◌, ◌≤◌, ◌<◌}
 use native.Mathlib.Omega.{arith}
-use lib.ListN.{length, take, drop, length-append, length-drop, take-append-drop, drop_of_length-le}
+use native.Mathlib.Nat.{not-suc-le-zero}
+use Rattle.std.specs.Simd.{first_chunks}
+use lib.ListN.{length, get_or, take, drop, length-append, length-drop, take-append-drop, drop_of_length-le}
 use lib.Seq.{length-take-le, drop-drop}
 use Rattle.poly.proofs.Coefficient.{lt_or_le}
 use Rattle.text.specs.Text.{Puts}
@@ -35,8 +37,13 @@ done_none records start = record {
   room = omega arith;
 }
 
-sixteen : (i : ℕ) → i + 16 - i ≡ 16
-sixteen i = omega arith
+-- the records one after the other, as they are cut
+pub record_at : (k i : ℕ) (records : List ℕ) → i < k → get_or (first_chunks 16 k records) i [] ≡ take 16 (drop (i * 16) records)
+record_at zero i records l = absurd (not-suc-le-zero l)
+record_at (suc k) zero records l = refl
+record_at (suc k) (suc i) records l =
+    let further : (suc i) * 16 ≡ 16 + i * 16 = omega arith in
+    rw (further, ← drop-drop (i * 16) 16 records) (record_at k i (drop 16 records) (omega arith))
 
 -- whether there is room, as it is tested
 module _ (records start : List ℕ) where
@@ -56,18 +63,17 @@ module _ {records start out : List ℕ} {place i : ℕ} (h : Room records start)
   done_room = omega (arith, done_length, d.whole, d.within, d.room)
 
   -- the next sixteen bytes
-  pub done_bytes : i + 16 ≤ length records → length (take (i + 16 - i) (drop i records)) ≡ 16
-  done_bytes l = rw (sixteen i) (length-take-le 16 (drop i records) (rw length-drop (omega arith)))
+  done_bytes : i + 16 ≤ length records → length (take 16 (drop i records)) ≡ 16
+  done_bytes l = length-take-le 16 (drop i records) (rw length-drop (omega arith))
 
   -- one record more
-  pub done_more : {out' : List ℕ} {place' : ℕ} → i + 16 ≤ length records → Line (take (i + 16 - i) (drop i records)) out place out' place'
+  pub done_more : {out' : List ℕ} {place' : ℕ} → i + 16 ≤ length records → Line (take 16 (drop i records)) out place out' place'
       → Done records start out' place' (i + 16)
   done_more {place' = place'} l m =
-      let bytes = take (i + 16 - i) (drop i records) in
+      let bytes = take 16 (drop i records) in
       let text = line_of (record_of bytes) m.number m.count m.value in
       let split : drop i records ≡ bytes ++ drop (i + 16) records =
-      sym (take-append-drop 16 (drop i records))
-      ∙ ap₂ (λ (k : ℕ) (x : List ℕ). take k (drop i records) ++ x) (sym (sixteen i)) (drop-drop 16 i records) in
+      sym (take-append-drop 16 (drop i records)) ∙ ap (λ (x : List ℕ). bytes ++ x) (drop-drop 16 i records) in
       let fits : place + length text ≤ length out = omega (arith, done_room, m.line.short) in
       let there : place' ≡ place + length text = (m.line.puts.fits fits).0 in
       let both = length-append d.text text in

@@ -5,6 +5,8 @@ use Rattle.codes.specs.Calls.{MessageFits, Encodes, Leaves, Decodes}
 use Rattle.families.specs.Families.{length_of, generator_of}
 use Rattle.text.specs.Text.{decimal, Puts}
 use Rattle.verdict.specs.Verdict.{Where}
+pub use Rattle.records.specs.declared.job.Job.{Job}
+pub use Rattle.records.specs.declared.job.Job.TheVariants.{E, P, S, D, Q}
 
 -- ---- a record: 16 bytes, numbers big-endian
 
@@ -34,14 +36,7 @@ record_of bytes = record {
 
 -- ---- the jobs
 
--- E systematic encode, P product encode, S remainder, D systematic decode, Q product decode.
-pub data Job : Type 0 where
-  E : Job
-  P : Job
-  S : Job
-  D : Job
-  Q : Job
-
+-- E systematic encode, P product encode, S remainder, D systematic decode, Q product decode: the program's own names.
 abbrev pub letter_of : Job → ℕ
 letter_of E = 69
 letter_of P = 80

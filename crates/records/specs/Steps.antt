@@ -1,7 +1,18 @@
 -- What the functions on the way from a record to its line promise each other. Assumes nothing.
-use Rattle.std.specs.Prelude.{◌≡◌, List, ℕ, ◌≤◌, ◌<◌, length}
+use Rattle.std.specs.Prelude.{◌≡◌, List, ℕ, ◌≤◌, ◌<◌, length, Result, Ok, Err}
+use Rattle.verdict.specs.declared.Refusal.{Refusal}
 use Rattle.text.specs.Text.{Puts}
+use Rattle.records.specs.declared.jobs.Reading.{Reading}
 use Rattle.records.specs.Records.{Record, Job, RuleFits, WordFits, Calls, Gives, record_of, line_of}
+
+-- The count and the value of an answer: 0 beside a refusal.
+abbrev pub count_of : Result Reading Refusal → ℕ
+count_of (Ok r) = r.count
+count_of (Err e) = 0
+
+abbrev pub value_of : Result Reading Refusal → ℕ
+value_of (Ok r) = r.value
+value_of (Err e) = 0
 
 -- The job's answer for a family: 9 where the rule byte or the word does not fit. Number and count are single digits.
 pub record Answered (job : Job) (n g rule w number count value : ℕ) : Type 0 where

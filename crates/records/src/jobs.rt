@@ -1,72 +1,40 @@
-// From the fields of a record to the number handed back, the count of mended cells and the value.
-ghost use Rattle.std.specs.Prelude.{◌≡◌, ℕ, ◌+◌, ◌*◌, ◌^◌, ◌≤◌, ◌<◌, get_or};
+// From the fields of a record to what it gives: the count of mended cells and the value, or a refusal.
+ghost use Rattle.std.specs.Prelude.{◌≡◌, ℕ, ◌+◌, ◌*◌, ◌^◌, ◌≤◌, ◌<◌};
 ghost use Rattle.std.specs.Int.Count.{ones};
-ghost use Rattle.poly.specs.Poly.{times, Degree, Remainder};
-ghost use Rattle.verdict.specs.Verdict.{Tells};
+ghost use Rattle.poly.specs.Poly.{times};
+ghost use Rattle.verdict.specs.Refusal.{number};
 ghost use Rattle.codes.specs.Row.{pattern_at};
 ghost use Rattle.codes.specs.Finding.{FindsCode};
-ghost use Rattle.families.specs.Families.{lengths, generators};
-ghost use Rattle.tables.specs.Tables.{Packed, Parts, Places, Family, highest as highest_of};
-ghost use Rattle.records.specs.Records.{E, P, S, D, Q, Gives};
-ghost use Rattle.records.specs.Steps.{Answered, fields};
+ghost use Rattle.records.specs.Records.{Gives};
+ghost use Rattle.records.specs.Steps.{Answered, count_of, value_of, fields};
 
+use crate::job::Job;
+use std::marker::Model;
+use tables::{Division, Plate};
+use verdict::Refusal;
+
+// What is read out of a record that is done.
 #[derive(Clone, Copy)]
-pub(crate) struct Outcome {
-    pub number: u64,
+pub(crate) struct Reading {
     pub count: u64,
     pub value: u64,
 }
 
-// A refusal: with any number but 0 the other results are 0.
-fn refused(number: u64) -> Outcome
-    ensures { (result.number ≡ number) × (result.count ≡ 0) × (result.value ≡ 0) }
+// That of a job that mends nothing.
+fn unmended(value: u64) -> Reading
+    ensures { (result.count ≡ 0) × (result.value ≡ value) }
 {
-    Outcome {
-        number,
-        count: 0,
-        value: 0,
-    }
+    Reading { count: 0, value }
 }
 
-pub(crate) fn wide(x: u8) -> u64
-    ensures { result ≡ x }
+// The product of a message and the generator, by the digits of the generator.
+fn product(plate: Plate, d: u64) -> u64
+    requires { d * 2 ^ plate.r < 2 ^ 63 }
+    ensures { result ≡ times d plate.g }
 {
-    x as u64
-}
-
-// Quotient and remainder of a word by the generator of a family, in one number.
-fn divide(parts: &[u64; 3072], f: usize, word: u64) -> u64
-    requires { Parts parts.now × (f < 12) }
-    ensures { (r : ℕ) → Degree (get_or generators f 0) r → Packed (get_or generators f 0) r word result }
-{
-    let mut e: u64 = 0;
-    let mut i: usize = 0;
-    while i < 16 {
-        let b = ((word >> (i * 4)) % 16) as usize;
-        e = e ^ parts[f * 256 + i * 16 + b];
-        i += 1;
-    }
-    e
-}
-
-// The remainder alone.
-fn rest(parts: &[u64; 3072], f: usize, n: usize, r: usize, word: u64) -> u64
-    requires { Parts parts.now × Family f n r }
-    ensures { Remainder word (get_or generators f 0) result }
-{
-    divide(parts, f, word) % (1 << r)
-}
-
-// The product of a message and g, by the digits of g.
-fn product(d: u64, g: u64) -> u64
-    requires { (0 < g) × (g < 2 ^ 12) × ((r : ℕ) → Degree g r → d * 2 ^ r < 2 ^ 63) }
-    ensures { result ≡ times d g }
-{
-    let mut t: u64 = 0;
-    let mut i: usize = 0;
-    while i < 12 {
-        t = t ^ ((d * ((g >> i) % 2)) << i);
-        i += 1;
+    let mut t = 0;
+    for i in 0..12u32 {
+        t ^= (d * ((plate.g >> i) % 2)) << i;
     }
     t
 }
@@ -102,198 +70,103 @@ fn cells(n: usize, k: usize) -> u64
     2
 }
 
-// Whether the rule byte is zero and the word has at most n digits.
-fn allowed(rule: u64, n: usize, w: u64) -> bool
-    requires { n ≤ 63 }
-    ensures { Tells ((rule ≡ 0) × (w < 2 ^ n)) result }
-{
-    if rule != 0 {
-        return false;
-    }
-    w >> n == 0
+// The tables that the jobs are done by, made once for a block of records.
+#[derive(Drop)]
+pub(crate) struct Tables {
+    division: Division,
+    places: [u8; 24576],
 }
 
-// E: x^r times the message, and its remainder.
-fn systematic(parts: &[u64; 3072], f: usize, n: usize, r: usize, rule: u64, d: u64) -> Outcome
-    requires { Parts parts.now × Family f n r }
-    ensures { Answered E n (get_or generators f 0) rule d result.number result.count result.value }
-{
-    if !allowed(rule, n - r, d) {
-        return refused(9);
-    }
-    let x = d << r;
-    Outcome {
-        number: 0,
-        count: 0,
-        value: x ^ rest(parts, f, n, r, x),
-    }
+impl Model for Tables {
+    ghost use Rattle.std.specs.Prelude.{List, ℕ};
+    ghost use Rattle.tables.specs.Tables.{Places};
+
+    ghost Value = { List ℕ };
+
+    ghost view = { λ t. t.places };
+
+    ghost invariant = { λ t. Places t.places };
 }
 
-// P: the product.
-fn times(f: usize, g: u64, n: usize, r: usize, rule: u64, d: u64) -> Outcome
-    requires { Family f n r × (g ≡ get_or generators f 0) }
-    ensures { Answered P n g rule d result.number result.count result.value }
-{
-    if !allowed(rule, n - r, d) {
-        return refused(9);
+impl Tables {
+    pub(crate) fn new() -> Tables {
+        Tables {
+            division: Division::new(),
+            places: tables::places(),
+        }
     }
-    Outcome {
-        number: 0,
-        count: 0,
-        value: product(d, g),
-    }
-}
 
-// S: the remainder.
-fn remainder(parts: &[u64; 3072], f: usize, n: usize, r: usize, rule: u64, w: u64) -> Outcome
-    requires { Parts parts.now × Family f n r }
-    ensures { Answered S n (get_or generators f 0) rule w result.number result.count result.value }
-{
-    if !allowed(rule, n, w) {
-        return refused(9);
+    // The code word that differs from w in a pattern of the rule, and the number of cells in that pattern.
+    fn mend(&self, plate: Plate, rule: u64, w: u64) -> Result<Reading, Refusal>
+        requires { w < 2 ^ plate.n }
+        ensures mends { FindsCode plate.n plate.g rule w (number result) (value_of result) (count_of result) }
+        ensures digits { (number result < 10) × (count_of result < 10) }
+    {
+        if 2 < rule {
+            return Err(Refusal::Rule);
+        }
+        if plate.highest < rule {
+            return Err(Refusal::NotCarried);
+        }
+        let s = self.division.remainder(plate, w) as usize;
+        let k = usize::from(self.places[plate.f * 2048 + s]);
+        if plate.n * (rule as usize) < k {
+            return Err(Refusal::Unreadable);
+        }
+        Ok(Reading {
+            count: cells(plate.n, k),
+            value: w ^ pattern(plate.n, k),
+        })
     }
-    Outcome {
-        number: 0,
-        count: 0,
-        value: rest(parts, f, n, r, w),
-    }
-}
 
-// The highest rule that a family carries.
-fn highest(f: usize) -> u64
-    requires { f < 12 }
-    ensures { result ≡ highest_of f }
-{
-    let family = families::family_of((f + 1) as u64);
-    if family.pairs {
-        return 2;
+    // What a job gives for a plate.
+    fn perform(&self, job: Job, plate: Plate, rule: u64, word: u64) -> Result<Reading, Refusal>
+        ensures { Answered job plate.n plate.g rule word (number result) (count_of result) (value_of result) }
+    {
+        if !job.allows(plate, rule, word) {
+            return Err(Refusal::Record);
+        }
+        match job {
+            Job::E => {
+                let x = word << plate.r;
+                Ok(unmended(x ^ self.division.remainder(plate, x)))
+            }
+            Job::P => Ok(unmended(product(plate, word))),
+            Job::S => Ok(unmended(self.division.remainder(plate, word))),
+            Job::D => {
+                let m = self.mend(plate, rule, word)?;
+                Ok(Reading {
+                    count: m.count,
+                    value: m.value >> plate.r,
+                })
+            }
+            Job::Q => {
+                let m = self.mend(plate, rule, word)?;
+                Ok(Reading {
+                    count: m.count,
+                    value: self.division.divide(plate, m.value) >> plate.r,
+                })
+            }
+        }
     }
-    1
-}
 
-// The code word that differs from w in a pattern of the rule, and the number of cells in that pattern.
-fn mend(
-    parts: &[u64; 3072],
-    places: &[u8; 24576],
-    f: usize,
-    n: usize,
-    r: usize,
-    rule: u64,
-    w: u64,
-) -> Outcome
-    requires { Parts parts.now × Places places.now × Family f n r × (w < 2 ^ n) }
-    ensures mends { FindsCode n (get_or generators f 0) rule w result.number result.value result.count }
-    ensures digits { (result.number < 10) × (result.count < 10) }
-{
-    if 2 < rule {
-        return refused(4);
+    // What a record gives. Number 9 comes before every other.
+    pub(crate) fn answer(
+        &self,
+        letter: u8,
+        family: u64,
+        rule: u64,
+        spare: u64,
+        word: u64,
+    ) -> Result<Reading, Refusal>
+        ensures digits { (number result < 10) × (count_of result < 10) }
+        ensures gives { (station : ℕ) → Gives (fields letter family rule spare station word) (number result) (count_of result) (value_of result) }
+    {
+        if spare != 0 {
+            return Err(Refusal::Record);
+        }
+        let job = Job::of(letter).ok_or(Refusal::Record)?;
+        let plate = Plate::of(family).ok_or(Refusal::Record)?;
+        self.perform(job, plate, rule, word)
     }
-    if highest(f) < rule {
-        return refused(5);
-    }
-    let s = rest(parts, f, n, r, w) as usize;
-    let k = wide(places[f * 2048 + s]) as usize;
-    if n * (rule as usize) < k {
-        return refused(8);
-    }
-    Outcome {
-        number: 0,
-        count: cells(n, k),
-        value: w ^ pattern(n, k),
-    }
-}
-
-// D: the first k cells of the mended word.
-fn first(
-    parts: &[u64; 3072],
-    places: &[u8; 24576],
-    f: usize,
-    n: usize,
-    r: usize,
-    rule: u64,
-    w: u64,
-) -> Outcome
-    requires { Parts parts.now × Places places.now × Family f n r }
-    ensures { Answered D n (get_or generators f 0) rule w result.number result.count result.value }
-{
-    if w >> n != 0 {
-        return refused(9);
-    }
-    let m = mend(parts, places, f, n, r, rule, w);
-    Outcome {
-        number: m.number,
-        count: m.count,
-        value: m.value >> r,
-    }
-}
-
-// Q: the quotient of the mended word.
-fn quotient(
-    parts: &[u64; 3072],
-    places: &[u8; 24576],
-    f: usize,
-    n: usize,
-    r: usize,
-    rule: u64,
-    w: u64,
-) -> Outcome
-    requires { Parts parts.now × Places places.now × Family f n r }
-    ensures { Answered Q n (get_or generators f 0) rule w result.number result.count result.value }
-{
-    if w >> n != 0 {
-        return refused(9);
-    }
-    let m = mend(parts, places, f, n, r, rule, w);
-    Outcome {
-        number: m.number,
-        count: m.count,
-        value: divide(parts, f, m.value) >> r,
-    }
-}
-
-// What a record gives. Number 9 comes before every other.
-pub(crate) fn answer(
-    ns: &[usize; 12],
-    gs: &[u64; 12],
-    parts: &[u64; 3072],
-    places: &[u8; 24576],
-    letter: u8,
-    family: u64,
-    rule: u64,
-    spare: u64,
-    word: u64,
-) -> Outcome
-    requires { (ns.now ≡ lengths) × (gs.now ≡ generators) × Parts parts.now × Places places.now }
-    ensures digits { (result.number < 10) × (result.count < 10) }
-    ensures gives { (station : ℕ) → Gives (fields letter family rule spare station word) result.number result.count result.value }
-{
-    if spare != 0 {
-        return refused(9);
-    }
-    if family == 0 {
-        return refused(9);
-    }
-    if 12 < family {
-        return refused(9);
-    }
-    let f = (family - 1) as usize;
-    let n = ns[f];
-    let g = gs[f];
-    let r = poly::degree_of(g);
-    if letter == b'E' {
-        return systematic(parts, f, n, r, rule, word);
-    }
-    if letter == b'P' {
-        return times(f, g, n, r, rule, word);
-    }
-    if letter == b'S' {
-        return remainder(parts, f, n, r, rule, word);
-    }
-    if letter == b'D' {
-        return first(parts, places, f, n, r, rule, word);
-    }
-    if letter == b'Q' {
-        return quotient(parts, places, f, n, r, rule, word);
-    }
-    refused(9)
 }

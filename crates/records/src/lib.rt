@@ -1,67 +1,37 @@
 // Records and their lines.
 #![tactic(auto)]
 
+mod job;
 mod jobs;
 
 ghost use Rattle.std.specs.Prelude.{◌≡◌, ◌+◌, ◌≤◌, ◌<◌, length};
-ghost use Rattle.families.specs.Families.{lengths, generators};
-ghost use Rattle.tables.specs.Tables.{Parts, Places};
-ghost use Rattle.records.specs.Records.{big_endian, shown as shownOf, line_of, short_of, Printed};
-ghost use Rattle.records.specs.Steps.{fields, PutsLine, Line};
+ghost use Rattle.verdict.specs.Refusal.{number};
+ghost use Rattle.records.specs.Records.{line_of, short_of, Printed};
+ghost use Rattle.records.specs.Steps.{count_of, value_of, fields, PutsLine, Line};
 
-// Bytes as a number, the first one highest.
-fn big_endian(bytes: &[u8]) -> u64
-    requires { length bytes.now ≤ 8 }
-    ensures { result ≡ big_endian bytes.now }
-{
-    let mut v: u64 = 0;
-    let mut i: usize = 0;
-    while i < bytes.len() {
-        v = v * 256 + jobs::wide(bytes[i]);
-        i += 1;
-    }
-    v
-}
+use jobs::{Reading, Tables};
+use verdict::Refusal;
 
-// The letter, `?` if unknown.
-fn shown(letter: u8) -> u8
-    ensures { result ≡ shownOf letter }
-{
-    if letter == b'E' {
-        return letter;
-    }
-    if letter == b'P' {
-        return letter;
-    }
-    if letter == b'S' {
-        return letter;
-    }
-    if letter == b'D' {
-        return letter;
-    }
-    if letter == b'Q' {
-        return letter;
-    }
-    b'?'
-}
-
-// Writes a line from place `at` on, and hands back the place after it. Number and count have one digit.
+// Writes a line from place `at` on, and hands back the place after it. Number and count have one digit. (`out` and `at` are no struct: text::put_bytes and
+// put_number, whose clauses are fixed, take and hand back the two, and a struct's methods would only repeat these.)
 fn put_fields(
     out: &mut [u8],
     at: usize,
     station: u64,
     letter: u8,
-    number: u64,
-    count: u64,
-    value: u64,
+    answer: Result<Reading, Refusal>,
 ) -> usize
-    requires { (number < 10) × (count < 10) × (at + 64 ≤ length out.old) }
-    ensures { PutsLine (line_of (fields letter 0 0 0 station 0) number count value) out.old at out.new result }
+    requires { (number answer < 10) × (count_of answer < 10) × (at + 64 ≤ length out.old) }
+    ensures { PutsLine (line_of (fields letter 0 0 0 station 0) (number answer) (count_of answer) (value_of answer)) out.old at out.new result }
 {
+    let (number, count, value) = match answer {
+        Ok(reading) => (0, reading.count, reading.value),
+        Err(refusal) => (u64::from(refusal), 0, 0),
+    };
     let a = text::put_number(out, at, station);
     let middle = [
         b' ',
-        shown(letter),
+        job::shown(letter),
         b' ',
         48 + number as u8,
         b' ',
@@ -74,33 +44,37 @@ fn put_fields(
 }
 
 // The line of a record.
-fn put_line(
-    ns: &[usize; 12],
-    gs: &[u64; 12],
-    parts: &[u64; 3072],
-    places: &[u8; 24576],
-    bytes: &[u8],
-    out: &mut [u8],
-    at: usize,
-) -> usize
-    requires { (ns.now ≡ lengths) × (gs.now ≡ generators) × Parts parts.now × Places places.now × (length bytes.now ≡ 16) × (at + 64 ≤ length out.old) }
-    ensures { Line bytes.now out.old at out.new result }
+fn put_line(tables: &Tables, record: &[u8; 16], out: &mut [u8], at: usize) -> usize
+    requires { at + 64 ≤ length out.old }
+    ensures { Line record.now out.old at out.new result }
 {
-    let letter = bytes[0];
-    let station = big_endian(&bytes[4..8]);
-    let word = big_endian(&bytes[8..16]);
-    let a = jobs::answer(
-        ns,
-        gs,
-        parts,
-        places,
+    let [
         letter,
-        jobs::wide(bytes[1]),
-        jobs::wide(bytes[2]),
-        jobs::wide(bytes[3]),
-        word,
+        family,
+        rule,
+        spare,
+        s0,
+        s1,
+        s2,
+        s3,
+        w0,
+        w1,
+        w2,
+        w3,
+        w4,
+        w5,
+        w6,
+        w7,
+    ] = *record;
+    let station = u32::from_be_bytes([s0, s1, s2, s3]);
+    let answer = tables.answer(
+        letter,
+        u64::from(family),
+        u64::from(rule),
+        u64::from(spare),
+        u64::from_be_bytes([w0, w1, w2, w3, w4, w5, w6, w7]),
     );
-    put_fields(out, at, station, letter, a.number, a.count, a.value)
+    put_fields(out, at, u64::from(station), letter, answer)
 }
 
 // The short line.
@@ -120,19 +94,14 @@ pub fn lines(records: &[u8], out: &mut [u8]) -> usize
     if out.len() / 64 <= records.len() / 16 {
         return 0;
     }
-    let ns = families::all_lengths();
-    let gs = families::all_generators();
-    let parts = tables::parts();
-    let places = tables::places();
-    let mut at: usize = 0;
-    let mut i: usize = 0;
-    while 16 <= records.len() - i {
-        let e = i + 16;
-        at = put_line(&ns, &gs, &parts, &places, &records[i..e], out, at);
-        i = e;
+    let tables = Tables::new();
+    let (whole, rest) = records.as_chunks::<16>();
+    let mut at = 0;
+    for record in whole {
+        at = put_line(&tables, record, out, at);
     }
-    if i < records.len() {
-        return put_short(out, at, records.len() - i);
+    if rest.is_empty() {
+        return at;
     }
-    at
+    put_short(out, at, rest.len())
 }
