@@ -1,48 +1,48 @@
 // The calls of the clocked reader.
-use super::fields::{MOST, cells_at, head_of, number_at, reader_of};
-use super::results::{put_reader, put_three, put_two, put_unclear};
+use super::fields::{Failure, Fields};
+use super::results::{Cells, Standing, both};
 use reader::Reader;
+use std::io::Write;
+
+// What is printed beside a refused start.
+const NONE: Reader = Reader {
+    n: 0,
+    g: 0,
+    rule: 0,
+    clocks: 0,
+    mended: 0,
+    stages: [0; 32],
+    cells: [0; 63],
+};
 
 // N: n g rule.
-pub(crate) fn start(letter: u8, line: &[u8], out: &mut [u8], at: usize) -> usize {
-    let head = head_of(letter, line);
-    if head.end != line.len() {
-        return put_unclear(out, at);
+pub(crate) fn start<W: Write>(mut fields: Fields, out: &mut W) -> Result<(), Failure> {
+    let (n, g, rule) = fields.ruled()?;
+    fields.end()?;
+    match Reader::start(n, g, rule) {
+        Ok(reader) => write!(out, "0 {}", Standing(reader))?,
+        Err(refusal) => write!(out, "{} {}", u64::from(refusal), Standing(NONE))?,
     }
-    let x = Reader::start(head.n, head.g, head.rule);
-    let next = text::put_number(out, at, x.number);
-    put_reader(out, next, x.reader)
+    Ok(())
 }
 
 // C: a reader, and a cell in decimal.
-pub(crate) fn clock(line: &[u8], out: &mut [u8], at: usize) -> usize {
-    let standing = reader_of(line);
-    let cell = number_at(line, standing.end);
-    if cell.end != line.len() {
-        return put_unclear(out, at);
-    }
-    if 255 < cell.value {
-        return put_unclear(out, at);
-    }
-    let reader = standing.reader;
-    let x = reader.clock(cell.value as u8);
-    let next = put_two(out, at, x.number, x.cell as u64);
-    put_reader(out, next, x.reader)
-}
-
-fn put_answer(reader: Reader, message: &mut [u8], out: &mut [u8], at: usize) -> usize {
-    let x = reader.answer(message);
-    put_three(out, at, x.number, x.mended, message)
+pub(crate) fn clock<W: Write>(mut fields: Fields, out: &mut W) -> Result<(), Failure> {
+    let reader = fields.reader()?;
+    let cell = u8::try_from(fields.number()?).map_err(|_| Failure::Unclear)?;
+    fields.end()?;
+    let x = reader.clock(cell);
+    let (number, given) = both(x.given.map(u64::from));
+    write!(out, "{number} {given} {}", Standing(x.reader))?;
+    Ok(())
 }
 
 // A: a reader and a message.
-pub(crate) fn answer(line: &[u8], out: &mut [u8], at: usize) -> usize {
-    let standing = reader_of(line);
-    let mut message = [0u8; MOST];
-    let read = cells_at(line, standing.end, &mut message);
-    if read.end != line.len() {
-        return put_unclear(out, at);
-    }
-    let count = read.count;
-    put_answer(standing.reader, &mut message[..count], out, at)
+pub(crate) fn answer<W: Write>(mut fields: Fields, out: &mut W) -> Result<(), Failure> {
+    let reader = fields.reader()?;
+    let mut message = fields.cells()?;
+    fields.end()?;
+    let (number, mended) = both(reader.answer(&mut message));
+    write!(out, "{number} {mended} {}", Cells(&message))?;
+    Ok(())
 }

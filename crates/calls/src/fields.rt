@@ -1,229 +1,134 @@
-// The fields of a line, each behind one space. A field that is missing or not of its form has its end at NOWHERE: no field begins there and no line ends
-// there, so a line is clear if its last field ends where the line does.
-ghost use Rattle.std.specs.Prelude.{◌≤◌, ◌<◌, length};
-
+// The fields of a line, each behind one space.
 use reader::Reader;
+use std::alloc::{AllocFailed, Global};
+use std::io;
+use std::str::Split;
 
-const NOWHERE: usize = usize::MAX;
+// The most cells of a field.
+const MOST: usize = 8192;
 
-// The most cells of a field that has no fixed count.
-pub(crate) const MOST: usize = 8192;
-
-#[derive(Clone, Copy)]
-pub(crate) struct Number {
-    pub value: u64,
-    pub end: usize,
+// Why a line has no results: it is not of the form, or memory or a write failed.
+#[derive(Drop)]
+pub(crate) enum Failure {
+    Unclear,
+    Io(io::Error),
 }
 
-// How many cells were read.
-#[derive(Clone, Copy)]
-pub(crate) struct Cells {
-    pub count: usize,
-    pub end: usize,
-}
-
-// The numbers that a line begins with: n, g, which is a generator or a divisor, and the rule. What the line does not have is 0.
-#[derive(Clone, Copy)]
-pub(crate) struct Head {
-    pub n: usize,
-    pub g: u64,
-    pub rule: u64,
-    pub end: usize,
-}
-
-#[derive(Clone, Copy)]
-pub(crate) struct Standing {
-    pub reader: Reader,
-    pub end: usize,
-}
-
-// The place behind the byte b, if it stands here.
-fn behind(line: &[u8], at: usize, b: u8) -> usize {
-    if at < line.len() {
-        if line[at] == b {
-            return at + 1;
-        }
+impl From<io::Error> for Failure {
+    fn from(e: io::Error) -> Failure {
+        Failure::Io(e)
     }
-    NOWHERE
 }
 
-// The value of a decimal or hexadecimal digit, and 16 for any other byte.
-fn digit(b: u8) -> u8
-    ensures { result ≤ 16 }
-{
+impl<T: Drop> From<AllocFailed<T>> for Failure {
+    fn from(e: AllocFailed<T>) -> Failure {
+        Failure::Io(io::Error::from(e))
+    }
+}
+
+// The fields that are not yet read.
+#[derive(Drop)]
+pub(crate) struct Fields<'a> {
+    rest: Split<'a, char>,
+    alloc: Global,
+}
+
+// The value of a hexadecimal digit in lower case.
+fn digit(b: u8) -> Result<u8, Failure> {
     match b {
-        b'0'..=b'9' => b - b'0',
-        b'a'..=b'f' => b - b'a' + 10,
-        _ => 16,
+        b'0'..=b'9' => Ok(b - b'0'),
+        b'a'..=b'f' => Ok(b - b'a' + 10),
+        _ => Err(Failure::Unclear),
     }
 }
 
-// A number in decimal, as far as it is below 2^64: what is left of a larger one begins no field.
-pub(crate) fn number_at(line: &[u8], at: usize) -> Number {
-    let first = behind(line, at, b' ');
-    let mut value: u64 = 0;
-    let mut i = first;
-    while i < line.len() {
-        let d = digit(line[i]) as u64;
-        if 9 < d {
-            break;
+impl<'a> Fields<'a> {
+    pub(crate) fn new(alloc: Global, line: &'a [u8]) -> Result<Fields<'a>, Failure> {
+        match str::from_utf8(line) {
+            Ok(text) => Ok(Fields {
+                rest: text.split(' '),
+                alloc,
+            }),
+            Err(_) => Err(Failure::Unclear),
         }
-        if (u64::MAX - d) / 10 < value {
-            break;
+    }
+
+    pub(crate) fn text(&mut self) -> Result<&'a str, Failure> {
+        self.rest.next().ok_or(Failure::Unclear)
+    }
+
+    // No field is left.
+    pub(crate) fn end(mut self) -> Result<(), Failure> {
+        match self.rest.next() {
+            None => Ok(()),
+            Some(_) => Err(Failure::Unclear),
         }
-        value = value * 10 + d;
-        i += 1;
     }
-    if i == first {
-        return Number {
-            value: 0,
-            end: NOWHERE,
-        };
-    }
-    Number { value, end: i }
-}
 
-// One cell of a field; where there is none, it ends where it begins.
-#[derive(Clone, Copy)]
-struct Cell {
-    pub value: u8,
-    pub end: usize,
-}
-
-// `x` and two hexadecimal digits.
-fn byte_at(line: &[u8], i: usize) -> Cell
-    requires { i < length line.now }
-    ensures { (i ≤ result.end) × (result.end ≤ length line.now) }
-{
-    if line.len() - i < 3 {
-        return Cell { value: 0, end: i };
-    }
-    let high = digit(line[i + 1]);
-    let low = digit(line[i + 2]);
-    if 15 < high {
-        return Cell { value: 0, end: i };
-    }
-    if 15 < low {
-        return Cell { value: 0, end: i };
-    }
-    Cell {
-        value: high * 16 + low,
-        end: i + 3,
-    }
-}
-
-// `0`, `1` or a byte.
-fn cell_at(line: &[u8], i: usize) -> Cell
-    requires { i < length line.now }
-    ensures { (i ≤ result.end) × (result.end ≤ length line.now) }
-{
-    let b = line[i];
-    if b == b'x' {
-        return byte_at(line, i);
-    }
-    let value = digit(b);
-    if 1 < value {
-        return Cell { value: 0, end: i };
-    }
-    Cell { value, end: i + 1 }
-}
-
-// Cells, put into the front of those that are lent, as far as they reach: what is left begins no field.
-pub(crate) fn cells_at(line: &[u8], at: usize, cells: &mut [u8]) -> Cells
-    ensures { result.count ≤ length cells.new }
-{
-    let first = behind(line, at, b' ');
-    let mut i = first;
-    let mut count: usize = 0;
-    while i < line.len() && count < cells.len() {
-        let c = cell_at(line, i);
-        if c.end == i {
-            break;
+    // A number in decimal, below 2^64.
+    pub(crate) fn number(&mut self) -> Result<u64, Failure> {
+        let text = self.text()?;
+        if text.starts_with('+') {
+            return Err(Failure::Unclear);
         }
-        cells[count] = c.value;
-        count += 1;
-        i = c.end;
+        text.parse::<u64>().map_err(|_| Failure::Unclear)
     }
-    if count == 0 {
-        return Cells {
-            count: 0,
-            end: behind(line, first, b'-'),
-        };
-    }
-    Cells { count, end: i }
-}
 
-fn divisor_at(line: &[u8], at: usize) -> Head {
-    let g = number_at(line, at);
-    Head {
-        n: 0,
-        g: g.value,
-        rule: 0,
-        end: g.end,
+    // n and g.
+    pub(crate) fn code(&mut self) -> Result<(usize, u64), Failure> {
+        Ok((self.number()? as usize, self.number()?))
     }
-}
 
-fn code_at(line: &[u8], at: usize) -> Head {
-    let n = number_at(line, at);
-    let g = number_at(line, n.end);
-    Head {
-        n: n.value as usize,
-        g: g.value,
-        rule: 0,
-        end: g.end,
+    // n, g and the rule.
+    pub(crate) fn ruled(&mut self) -> Result<(usize, u64, u64), Failure> {
+        let (n, g) = self.code()?;
+        Ok((n, g, self.number()?))
     }
-}
 
-fn ruled_at(line: &[u8], at: usize) -> Head {
-    let code = code_at(line, at);
-    let rule = number_at(line, code.end);
-    Head {
-        n: code.n,
-        g: code.g,
-        rule: rule.value,
-        end: rule.end,
+    // Cells: `0`, `1` or a byte each.
+    pub(crate) fn cells(&mut self) -> Result<Vec<u8>, Failure> {
+        let mut cells = Vec::new(self.alloc);
+        let text = self.text()?;
+        if text == "-" {
+            return Ok(cells);
+        }
+        let mut rest = text.as_bytes();
+        while let Some((first, behind)) = rest.split_first() {
+            rest = behind;
+            match *first {
+                b'0' => cells.push(0)?,
+                b'1' => cells.push(1)?,
+                b'x' => {
+                    let (byte, behind) = rest.split_first_chunk::<2>().ok_or(Failure::Unclear)?;
+                    cells.push((digit(byte[0])? << 4) | digit(byte[1])?)?;
+                    rest = behind;
+                }
+                _ => return Err(Failure::Unclear),
+            }
+        }
+        if cells.is_empty() || MOST < cells.len() {
+            return Err(Failure::Unclear);
+        }
+        Ok(cells)
     }
-}
 
-// The head of a line, whose letter says which numbers it has.
-pub(crate) fn head_of(letter: u8, line: &[u8]) -> Head {
-    match letter {
-        b'D' | b'L' | b'H' | b'F' => divisor_at(line, 1),
-        b'S' | b'P' | b'R' | b's' | b'p' | b'r' | b'K' => code_at(line, 1),
-        _ => ruled_at(line, 1),
+    // A row of N cells.
+    pub(crate) fn row<const N: usize>(&mut self) -> Result<[u8; N], Failure> {
+        let cells = self.cells()?;
+        <[u8; N]>::try_from(cells.as_slice()).map_err(|_| Failure::Unclear)
     }
-}
 
-// A reader's seven fields.
-pub(crate) fn reader_of(line: &[u8]) -> Standing {
-    let code = ruled_at(line, 1);
-    let clocks = number_at(line, code.end);
-    let mended = number_at(line, clocks.end);
-    let mut stages = [0u8; 32];
-    let held = cells_at(line, mended.end, &mut stages);
-    let mut cells = [0u8; 63];
-    let stored = cells_at(line, held.end, &mut cells);
-    Standing {
-        reader: Reader {
-            n: code.n,
-            g: code.g,
-            rule: code.rule,
-            clocks: clocks.value as usize,
-            mended: mended.value,
-            stages,
-            cells,
-        },
-        end: end_of_rows(held, stored),
+    // A reader's seven fields.
+    pub(crate) fn reader(&mut self) -> Result<Reader, Failure> {
+        let (n, g, rule) = self.ruled()?;
+        Ok(Reader {
+            n,
+            g,
+            rule,
+            clocks: self.number()? as usize,
+            mended: self.number()?,
+            stages: self.row()?,
+            cells: self.row()?,
+        })
     }
-}
-
-// The end of the 32 stages and the 63 cells.
-fn end_of_rows(held: Cells, stored: Cells) -> usize {
-    if held.count != 32 {
-        return NOWHERE;
-    }
-    if stored.count != 63 {
-        return NOWHERE;
-    }
-    stored.end
 }

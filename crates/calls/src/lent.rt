@@ -1,124 +1,93 @@
 // The calls on lent cells.
-use super::fields::{Head, MOST, cells_at, head_of};
-use super::results::{put_cells, put_three, put_two, put_unclear};
+use super::fields::{Failure, Fields};
+use super::results::{Cells, both, number};
+use readings::Taken;
+use std::io::Write;
+use verdict::Refusal;
 
-fn put_remainder(letter: u8, head: Head, cells: &[u8], out: &mut [u8], at: usize) -> usize {
-    if letter == b'R' {
-        let x = words::remainder(head.n, head.g, cells);
-        return put_two(out, at, x.number, x.remainder);
-    }
-    if letter == b'H' {
-        let x = division::remainder_high(cells, head.g);
-        return put_two(out, at, x.number, x.remainder);
-    }
-    let x = division::remainder_low(cells, head.g);
-    put_two(out, at, x.number, x.remainder)
+// L and H: divisor dividend.
+pub(crate) fn divided<W: Write, F: FnOnce(&[u8], u64) -> Result<u64, Refusal>>(
+    mut fields: Fields,
+    out: &mut W,
+    call: F,
+) -> Result<(), Failure>
+    requires { F.IsAlwaysCallable call }
+{
+    let g = fields.number()?;
+    let dividend = fields.cells()?;
+    fields.end()?;
+    let (number, remainder) = both(call(&dividend, g));
+    write!(out, "{number} {remainder}")?;
+    Ok(())
 }
 
-// L and H: divisor dividend. R: n g word.
-pub(crate) fn one(letter: u8, line: &[u8], out: &mut [u8], at: usize) -> usize {
-    let head = head_of(letter, line);
-    let mut cells = [0u8; MOST];
-    let read = cells_at(line, head.end, &mut cells);
-    if read.end != line.len() {
-        return put_unclear(out, at);
-    }
-    let count = read.count;
-    put_remainder(letter, head, &cells[..count], out, at)
+// D: divisor dividend quotient.
+pub(crate) fn divide<W: Write>(mut fields: Fields, out: &mut W) -> Result<(), Failure> {
+    let g = fields.number()?;
+    let dividend = fields.cells()?;
+    let mut quotient = fields.cells()?;
+    fields.end()?;
+    let (number, remainder) = both(division::divide(&dividend, g, &mut quotient));
+    write!(out, "{number} {remainder} {}", Cells(&quotient))?;
+    Ok(())
 }
 
-fn encode(letter: u8, head: Head, message: &[u8], word: &mut [u8]) -> u64 {
-    if letter == b'P' {
-        return words::encode_product(head.n, head.g, message, word);
-    }
-    words::encode_systematic(head.n, head.g, message, word)
+// R: n g word.
+pub(crate) fn remainder<W: Write>(mut fields: Fields, out: &mut W) -> Result<(), Failure> {
+    let (n, g) = fields.code()?;
+    let word = fields.cells()?;
+    fields.end()?;
+    let (number, remainder) = both(words::remainder(n, g, &word));
+    write!(out, "{number} {remainder}")?;
+    Ok(())
 }
 
-fn put_divided(
-    head: Head,
-    dividend: &[u8],
-    quotient: &mut [u8],
-    out: &mut [u8],
-    at: usize,
-) -> usize {
-    let x = division::divide(dividend, head.g, quotient);
-    put_three(out, at, x.number, x.remainder, quotient)
+// S and P: n g message word.
+pub(crate) fn encode<W: Write, F: FnOnce(usize, u64, &[u8], &mut [u8]) -> Result<(), Refusal>>(
+    mut fields: Fields,
+    out: &mut W,
+    call: F,
+) -> Result<(), Failure>
+    requires { F.IsAlwaysCallable call }
+{
+    let (n, g) = fields.code()?;
+    let message = fields.cells()?;
+    let mut word = fields.cells()?;
+    fields.end()?;
+    let number = number(call(n, g, &message, &mut word));
+    write!(out, "{number} {}", Cells(&word))?;
+    Ok(())
 }
 
-fn put_encoded(
-    letter: u8,
-    head: Head,
-    message: &[u8],
-    word: &mut [u8],
-    out: &mut [u8],
-    at: usize,
-) -> usize {
-    let number = encode(letter, head, message, word);
-    let next = text::put_number(out, at, number);
-    put_cells(out, next, word)
+// M, Q and W: n g rule word message.
+pub(crate) fn decode<
+    W: Write,
+    F: FnOnce(usize, u64, u64, &[u8], &mut [u8]) -> Result<u64, Refusal>,
+>(mut fields: Fields, out: &mut W, call: F) -> Result<(), Failure>
+    requires { F.IsAlwaysCallable call }
+{
+    let (n, g, rule) = fields.ruled()?;
+    let word = fields.cells()?;
+    let mut message = fields.cells()?;
+    fields.end()?;
+    let (number, mended) = both(call(n, g, rule, &word, &mut message));
+    write!(out, "{number} {mended} {}", Cells(&message))?;
+    Ok(())
 }
 
-fn put_decoded(
-    letter: u8,
-    head: Head,
-    word: &[u8],
-    message: &mut [u8],
-    out: &mut [u8],
-    at: usize,
-) -> usize {
-    if letter == b'W' {
-        let x = reader::read(head.n, head.g, head.rule, word, message);
-        return put_three(out, at, x.number, x.mended, message);
-    }
-    if letter == b'Q' {
-        let x = words::decode_product(head.n, head.g, head.rule, word, message);
-        return put_three(out, at, x.number, x.mended, message);
-    }
-    let x = words::decode_systematic(head.n, head.g, head.rule, word, message);
-    put_three(out, at, x.number, x.mended, message)
-}
-
-fn put_better<'a>(
-    head: Head,
-    first: &'a [u8],
-    second: &'a [u8],
-    out: &mut [u8],
-    at: usize,
-) -> usize {
-    let number = readings::better_number(head.n, head.g, head.rule, first, second);
-    let word = readings::better_word(head.n, head.g, head.rule, first, second);
-    let next = put_two(out, at, number, word);
-    let taken = readings::better(head.n, head.g, head.rule, first, second);
-    put_cells(out, next, taken)
-}
-
-fn put_results(
-    letter: u8,
-    head: Head,
-    first: &[u8],
-    second: &mut [u8],
-    out: &mut [u8],
-    at: usize,
-) -> usize {
-    match letter {
-        b'D' => put_divided(head, first, second, out, at),
-        b'S' | b'P' => put_encoded(letter, head, first, second, out, at),
-        b'B' => put_better(head, first, second, out, at),
-        _ => put_decoded(letter, head, first, second, out, at),
-    }
-}
-
-// D: divisor dividend quotient. S and P: n g message word. M, Q and W: n g rule word message. B: n g rule first second.
-pub(crate) fn two(letter: u8, line: &[u8], out: &mut [u8], at: usize) -> usize {
-    let head = head_of(letter, line);
-    let mut first = [0u8; MOST];
-    let one = cells_at(line, head.end, &mut first);
-    let mut second = [0u8; MOST];
-    let two = cells_at(line, one.end, &mut second);
-    if two.end != line.len() {
-        return put_unclear(out, at);
-    }
-    let a = one.count;
-    let b = two.count;
-    put_results(letter, head, &first[..a], &mut second[..b], out, at)
+// B: n g rule first second.
+pub(crate) fn better<W: Write>(mut fields: Fields, out: &mut W) -> Result<(), Failure> {
+    let (n, g, rule) = fields.ruled()?;
+    let first = fields.cells()?;
+    let second = fields.cells()?;
+    fields.end()?;
+    let number = number(readings::better_number(n, g, rule, &first, &second));
+    let word = match readings::better_word(n, g, rule, &first, &second) {
+        None => 0,
+        Some(Taken::First) => 1,
+        Some(Taken::Second) => 2,
+    };
+    let taken = readings::better(n, g, rule, &first, &second);
+    write!(out, "{number} {word} {}", Cells(taken))?;
+    Ok(())
 }

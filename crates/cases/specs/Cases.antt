@@ -22,7 +22,7 @@ pub data Case : Type 0 where
 
 -- What a case claims: what the call hands back, by the definitions; for a division whatever the lent quotient held.
 abbrev pub Holds : Case → Type 0
-Holds (divides n p g q s) = (lent : List ℕ) → length lent ≡ n → DividesCells (cells n p) g lent (cells n q) (record { number = 0; remainder = s })
+Holds (divides n p g q s) = (lent : List ℕ) → length lent ≡ n → DividesCells (cells n p) g lent (cells n q) 0 s
 Holds (systematic f d w) = Encodes Systematic (length_of f) (generator_of f) d 0 w
 Holds (product f d w) = Encodes Product (length_of f) (generator_of f) d 0 w
 Holds (remains f w s) = Leaves (length_of f) (generator_of f) w 0 s

@@ -1,132 +1,104 @@
 // The worked cases of document 01, run through the calls: a line for each with its number in the document, the number handed back and the results.
 #![tactic(auto)]
 
-use std::io;
+ghost use Rattle.std.specs.Prelude.{◌<◌};
 
-fn wide(cell: u8) -> u64 {
-    cell as u64
-}
+use std::{fmt, io};
+use verdict::Refusal;
+use words::{encode_product, encode_systematic};
 
-// Cells as digits, at a place of a line.
-fn put_cells(line: &mut [u8], at: usize, cells: &[u8]) -> usize {
-    let mut end = at;
-    let mut i: usize = 0;
-    while i < cells.len() {
-        end = text::put_number(line, end, wide(cells[i]));
-        i += 1;
+// Cells as digits.
+#[derive(Drop)]
+struct Digits<'a>(&'a [u8]);
+
+impl<'a> fmt::Display for Digits<'a> {
+    fn fmt<W: fmt::Write>(&self, f: &mut fmt::Formatter<W>) -> fmt::Result {
+        for cell in self.0 {
+            write!(f, "{cell}")?;
+        }
+        Ok(())
     }
-    end
 }
 
-// A number and a space.
-fn put_field(line: &mut [u8], at: usize, value: u64) -> usize {
-    let end = text::put_number(line, at, value);
-    text::put_bytes(line, end, b" ")
-}
-
-// Three numbers and then cells, and where the line ends.
-fn put_line(line: &mut [u8], case: u64, number: u64, value: u64, cells: &[u8]) -> usize {
-    let a = put_field(line, 0, case);
-    let b = put_field(line, a, number);
-    let c = put_field(line, b, value);
-    let d = put_cells(line, c, cells);
-    text::put_bytes(line, d, b"\n")
-}
-
-fn write_front(rt: &impl Print, line: &[u8], end: usize) -> io::Result<()> {
-    if end <= line.len() {
-        return rt.write_all(&line[..end]);
+// The case, the number handed back and the value, 0 beside a refusal, and cells.
+fn show(rt: &impl Print, case: u64, outcome: Result<u64, Refusal>, cells: &[u8]) -> io::Result<()> {
+    match outcome {
+        Ok(value) => println!(rt; "{case} 0 {value} {}", Digits(cells)),
+        Err(refusal) => println!(rt; "{case} {} 0 {}", u64::from(refusal), Digits(cells)),
     }
-    Ok(())
-}
-
-fn show(rt: &impl Print, case: u64, number: u64, value: u64, cells: &[u8]) -> io::Result<()> {
-    let mut line = [0u8; 128];
-    let end = put_line(&mut line, case, number, value, cells);
-    write_front(rt, &line, end)
 }
 
 // Case, number, remainder, quotient.
-fn division_case(
+fn division_case<const N: usize>(
     rt: &impl Print,
     case: u64,
-    dividend: &[u8],
+    dividend: &[u8; N],
     divisor: u64,
-    quotient: &mut [u8],
 ) -> io::Result<()> {
-    let x = division::divide(dividend, divisor, quotient);
-    show(rt, case, x.number, x.remainder, quotient)
+    let mut quotient = [0; N];
+    let outcome = division::divide(dividend, divisor, &mut quotient);
+    show(rt, case, outcome, &quotient)
 }
 
-// Case, number, 0, word.
-fn systematic_case(
+// Case, number, 0, word of N cells.
+fn encoding_case<const N: usize, F: FnOnce(usize, u64, &[u8], &mut [u8]) -> Result<(), Refusal>>(
     rt: &impl Print,
     case: u64,
-    n: usize,
+    encode: F,
     g: u64,
     message: &[u8],
-    word: &mut [u8],
-) -> io::Result<()> {
-    let number = words::encode_systematic(n, g, message, word);
-    show(rt, case, number, 0, word)
-}
-
-// The same by the product rule.
-fn product_case(
-    rt: &impl Print,
-    case: u64,
-    n: usize,
-    g: u64,
-    message: &[u8],
-    word: &mut [u8],
-) -> io::Result<()> {
-    let number = words::encode_product(n, g, message, word);
-    show(rt, case, number, 0, word)
+) -> io::Result<()>
+    requires small { N < 64 }
+    requires callable { F.IsAlwaysCallable encode }
+{
+    let mut word = [0; N];
+    let outcome = encode(N, g, message, &mut word).map(|()| 0);
+    show(rt, case, outcome, &word)
 }
 
 // Case, number, remainder.
 fn remainder_case(rt: &impl Print, case: u64, n: usize, g: u64, word: &[u8]) -> io::Result<()> {
-    let x = words::remainder(n, g, word);
-    show(rt, case, x.number, x.remainder, b"")
+    show(rt, case, words::remainder(n, g, word), b"")
 }
 
-// Case, number, cells mended, message: by the decoder, and by the clocked reader.
-fn reading_case(
+// Case, number, cells mended, message of K cells: by the decoder, and by the clocked reader.
+fn reading_case<const N: usize, const K: usize>(
     rt: &impl Print,
     case: u64,
-    n: usize,
     g: u64,
     rule: u64,
-    word: &[u8],
-    message: &mut [u8],
-    clocked: &mut [u8],
-) -> io::Result<()> {
-    let x = words::decode_systematic(n, g, rule, word, message);
-    show(rt, case, x.number, x.mended, message)?;
-    let y = reader::read(n, g, rule, word, clocked);
-    show(rt, case, y.number, y.mended, clocked)
+    word: &[u8; N],
+) -> io::Result<()>
+    requires { K < 64 }
+{
+    let mut message = [0; K];
+    let outcome = words::decode_systematic(N, g, rule, word, &mut message);
+    show(rt, case, outcome, &message)?;
+    let mut clocked = [0; K];
+    let outcome = reader::read(N, g, rule, word, &mut clocked);
+    show(rt, case, outcome, &clocked)
 }
 
 // Case and number.
 fn check_case(rt: &impl Print, case: u64, n: usize, g: u64, rule: u64) -> io::Result<()> {
-    show(rt, case, codes::check_rule(n, g, rule), 0, b"")
+    show(rt, case, codes::check_rule(n, g, rule).map(|()| 0), b"")
 }
 
 // Cases 1 to 3.
 fn divisions(rt: &impl Print) -> io::Result<()> {
-    division_case(rt, 1, &[1, 0, 1, 0, 1, 0, 0, 0, 1, 1], 45, &mut [0; 10])?;
-    division_case(rt, 2, &[1, 1, 0, 0, 0, 1, 1, 1], 21, &mut [0; 8])?;
-    division_case(rt, 3, &[1, 1, 1, 0, 0, 1, 1], 11, &mut [0; 7])
+    division_case(rt, 1, &[1, 0, 1, 0, 1, 0, 0, 0, 1, 1], 45)?;
+    division_case(rt, 2, &[1, 1, 0, 0, 0, 1, 1, 1], 21)?;
+    division_case(rt, 3, &[1, 1, 1, 0, 0, 1, 1], 11)
 }
 
 // Cases 4 to 10.
 fn encodings(rt: &impl Print) -> io::Result<()> {
-    systematic_case(rt, 4, 7, 11, &[1, 1, 0, 1], &mut [0; 7])?;
-    systematic_case(rt, 5, 7, 11, &[1, 0, 0, 1], &mut [0; 7])?;
-    systematic_case(rt, 6, 7, 13, &[0, 0, 1, 0], &mut [0; 7])?;
-    product_case(rt, 7, 7, 11, &[0, 1, 0, 1], &mut [0; 7])?;
-    systematic_case(rt, 8, 15, 1335, &[1, 0, 1, 0, 1], &mut [0; 15])?;
-    systematic_case(rt, 9, 15, 465, &[0, 0, 1, 1, 1, 0, 0], &mut [0; 15])?;
+    encoding_case::<7, _>(rt, 4, encode_systematic, 11, &[1, 1, 0, 1])?;
+    encoding_case::<7, _>(rt, 5, encode_systematic, 11, &[1, 0, 0, 1])?;
+    encoding_case::<7, _>(rt, 6, encode_systematic, 13, &[0, 0, 1, 0])?;
+    encoding_case::<7, _>(rt, 7, encode_product, 11, &[0, 1, 0, 1])?;
+    encoding_case::<15, _>(rt, 8, encode_systematic, 1335, &[1, 0, 1, 0, 1])?;
+    encoding_case::<15, _>(rt, 9, encode_systematic, 465, &[0, 0, 1, 1, 1, 0, 0])?;
     remainder_case(
         rt,
         10,
@@ -138,46 +110,22 @@ fn encodings(rt: &impl Print) -> io::Result<()> {
 
 // Cases 11 to 14.
 fn readings(rt: &impl Print) -> io::Result<()> {
-    reading_case(
-        rt,
-        11,
-        7,
-        11,
-        1,
-        &[1, 1, 0, 1, 1, 0, 1],
-        &mut [0; 4],
-        &mut [0; 4],
-    )?;
-    reading_case(
+    reading_case::<7, 4>(rt, 11, 11, 1, &[1, 1, 0, 1, 1, 0, 1])?;
+    reading_case::<15, 7>(
         rt,
         12,
-        15,
         465,
         2,
         &[1, 0, 1, 1, 1, 0, 0, 1, 1, 0, 0, 0, 0, 0, 0],
-        &mut [0; 7],
-        &mut [0; 7],
     )?;
-    reading_case(
+    reading_case::<15, 7>(
         rt,
         13,
-        15,
         465,
         2,
         &[0, 0, 0, 0, 0, 0, 0, 0, 0, 0, 0, 0, 1, 0, 1],
-        &mut [0; 7],
-        &mut [0; 7],
     )?;
-    reading_case(
-        rt,
-        14,
-        7,
-        11,
-        1,
-        &[0, 0, 0, 0, 0, 1, 1],
-        &mut [0; 4],
-        &mut [0; 4],
-    )
+    reading_case::<7, 4>(rt, 14, 11, 1, &[0, 0, 0, 0, 0, 1, 1])
 }
 
 // Case 15.
