@@ -11,7 +11,7 @@ use native.Mathlib.Omega.{arith}
 use lib.Dec.{T, eqb, eqb→eq}
 use Rattle.std.specs.Prelude.{Result, Ok, Err}
 use Rattle.std.specs.Result.{IsErrAnd}
-use Rattle.verdict.specs.Refusal.{number_of}
+use Rattle.verdict.specs.Refusal.{number_of, number, value}
 use Rattle.verdict.specs.declared.Refusal.{Refusal}
 use Rattle.verdict.specs.declared.Refusal.TheVariants.{Length, Generator, NotCyclic, Rule, NotCarried, Lent, Cell, Unreadable, Record, Differ, Form}
 use Rattle.verdict.specs.Verdict.{Check, Verdict, Passed, Settles, Tells, Where, order, among}
@@ -85,24 +85,15 @@ settles_yes cs o p d = record { ordered = o; verdict = passed_verdict cs p; done
 pub settles_no : (cs : List Check) {m : ℕ} {D R : Type 0} → T (among cs order) → (m ≡ 0 → ⊥) → Verdict cs m → R → Settles cs m D R
 settles_no cs o f v r = record { ordered = o; verdict = v; done = λ e. absurd (f e); refused = λ h. r }
 
--- the number 0 says that it was done, and one written down that it was refused
-pub settles_passed : (cs : List Check) {m : ℕ} {D R : Type 0} → T (among cs order) → Verdict cs m → m ≡ 0 → D → Settles cs 0 D R
-settles_passed cs o v e = settles_yes cs o (verdict_passed cs o v e)
-
 pub settles_refused : (cs : List Check) {m : ℕ} {D R : Type 0} → T (among cs order) → Verdict cs (suc m) → R → Settles cs (suc m) D R
 settles_refused cs o = settles_no cs o (omega arith)
 
 -- ---- other lists of checks
 
--- a check that passes can be left out, wherever it stands
+-- a check that passes can be left out at the head
 pub verdict_skip : (c : Check) (cs : List Check) {m : ℕ} → c.passes → Verdict (c ∷ cs) m → Verdict cs m
 verdict_skip c cs p (inl a) = absurd (a.0 p)
 verdict_skip c cs p (inr a) = a.1
-
-pub verdict_leave : (c : Check) (cs ds : List Check) (m : ℕ) → c.passes → Verdict (cs ++ (c ∷ ds)) m → Verdict (cs ++ ds) m
-verdict_leave c [] ds m p v = verdict_skip c ds p v
-verdict_leave c (d ∷ cs) ds m p (inl a) = inl a
-verdict_leave c (d ∷ cs) ds m p (inr a) = inr (a.0, verdict_leave c cs ds m p a.1)
 
 -- and one that asks the same can stand in its place
 pub verdict_map : (c d : Check) (cs ds : List Check) {m : ℕ} → c.number ≡ d.number → (c.passes → d.passes) → (d.passes → c.passes)
@@ -200,3 +191,38 @@ number_of_nonzero e z = omega (arith, number_of_pos e, z)
 pub refused_as : {A : Type 0} {e : Refusal} (r : Result A Refusal) → IsErrAnd r (λ y. y ≡ e) → r ≡ Err e
 refused_as (Err y) h = ap Err h
 refused_as (Ok x) h = absurd h
+
+-- ---- two results
+
+-- a refusal is known by its number
+abbrev refusal_of : ℕ → Refusal
+refusal_of n =
+    cond (eqb n 1) Length (cond (eqb n 2) Generator (cond (eqb n 3) NotCyclic (cond (eqb n 4) Rule (cond (eqb n 5) NotCarried
+    (cond (eqb n 6) Lent (cond (eqb n 7) Cell (cond (eqb n 8) Unreadable (cond (eqb n 9) Record (cond (eqb n 10) Differ Form)))))))))
+
+refusal_back : (e : Refusal) → refusal_of (number_of e) ≡ e
+refusal_back Length = refl
+refusal_back Generator = refl
+refusal_back NotCyclic = refl
+refusal_back Rule = refl
+refusal_back NotCarried = refl
+refusal_back Lent = refl
+refusal_back Cell = refl
+refusal_back Unreadable = refl
+refusal_back Record = refl
+refusal_back Differ = refl
+refusal_back Form = refl
+
+pub number_of_same : (e f : Refusal) → number_of e ≡ number_of f → e ≡ f
+number_of_same e f h = sym (refusal_back e) ∙ ap refusal_of h ∙ refusal_back f
+
+-- two results with one number are one, where with 0 they are the same
+pub results_same : {A : Type 0} (x y : Result A Refusal) → number x ≡ number y → ((a b : A) → x ≡ Ok a → y ≡ Ok b → a ≡ b) → x ≡ y
+results_same (Ok a) (Ok b) h same = ap Ok (same a b refl refl)
+results_same (Ok a) (Err e) h same = absurd (number_of_nonzero e (sym h))
+results_same (Err e) (Ok b) h same = absurd (number_of_nonzero e h)
+results_same (Err e) (Err f) h same = ap Err (number_of_same e f h)
+
+-- and so two with one number and one value
+pub values_same : (x y : Result ℕ Refusal) → number x ≡ number y → value x ≡ value y → x ≡ y
+values_same x y h v = results_same x y h (λ a b p q. rw (p, q) at v)
