@@ -1,6 +1,6 @@
 -- Lent cells: what the place of the first bad one tells, and that each call's promise has one result.
 -- Assumes nothing.
-use mathlib.Core.Path.{◌≡◌, sym, ◌∙◌}
+use mathlib.Core.Path.{◌≡◌, refl, sym, ap, ◌∙◌}
 use mathlib.Core.List.{List}
 use mathlib.Core.Logic.{◌⊎◌, inl, inr}
 use Prim.Native.Nat.{ℕ, suc, ◌+◌, ◌-◌, ◌*◌, ◌/◌, ◌%◌, ◌^◌, ◌≤◌, ◌<◌}
@@ -13,6 +13,9 @@ use lib.Seq.{length-take-le, set_split, drop_at}
 use Rattle.poly.specs.Cells.{Cells, poly, cells}
 use Rattle.poly.proofs.Cells.{cells_in, cells-take, poly-take-suc, poly_lt}
 use Rattle.poly.proofs.Coefficient.{lt_or_le}
+use Rattle.std.specs.Prelude.{Result, Ok, Err, MatchResult}
+use Rattle.verdict.specs.declared.Refusal.{Refusal}
+use Rattle.verdict.specs.declared.Refusal.TheVariants.{Cell}
 use Rattle.verdict.specs.Verdict.{Where}
 use Rattle.verdict.proofs.Verdict.{where_settled}
 use Rattle.cells.specs.Lent.{FirstBad}
@@ -68,6 +71,13 @@ module _ (w : List ℕ) (n p i rest : ℕ) (some : 0 < i) (room : i ≤ n) (long
 
 pub first_bad_settled : {w : List ℕ} {i j : ℕ} → FirstBad w i → FirstBad w j → i ≡ j
 first_bad_settled h k = omega (arith, first_bad_le h k, first_bad_le k h)
+
+pub check_settled : (w : List ℕ) (a b : Result (Unit {0}) Refusal) → MatchResult a (λ _. Cells w) (λ e. (e ≡ Cell) × (Cells w → ⊥))
+    → MatchResult b (λ _. Cells w) (λ e. (e ≡ Cell) × (Cells w → ⊥)) → a ≡ b
+check_settled w (Ok x) (Ok y) h k = refl
+check_settled w (Ok x) (Err e) h k = absurd (k.1 h)
+check_settled w (Err d) (Ok y) h k = absurd (h.1 k)
+check_settled w (Err d) (Err e) h k = ap Err (h.0 ∙ sym k.0)
 
 pub number_of_settled : (w : List ℕ) {p q : ℕ} → Where ((length w ≤ 63) × Cells w) (p ≡ poly w) (p ≡ 0)
     → Where ((length w ≤ 63) × Cells w) (q ≡ poly w) (q ≡ 0) → p ≡ q

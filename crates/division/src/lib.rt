@@ -12,7 +12,8 @@ ghost use Rattle.division.specs.Within.{checks, Fit};
 
 use verdict::Refusal;
 
-// The degree of the divisor, where a call with so many cells lent for a quotient is allowed.
+// The degree of the divisor, where a call with so many cells lent for a quotient is allowed. A call without a quotient says as many as the dividend has, and
+// the check of number 6 passes.
 fn stages(dividend: &[u8], divisor: u64, lent: usize) -> Result<usize, Refusal>
     ensures checked { Verdict (checks dividend.now divisor lent) (number result) }
     ensures fit { IfOk result (λ r. Fit dividend.now divisor r × (lent ≡ length dividend.now)) }
@@ -24,9 +25,8 @@ fn stages(dividend: &[u8], divisor: u64, lent: usize) -> Result<usize, Refusal>
         Err(Refusal::Generator)
     } else if lent != dividend.len() {
         Err(Refusal::Lent)
-    } else if cells::first_bad(dividend) < dividend.len() {
-        Err(Refusal::Cell)
     } else {
+        cells::check(dividend)?;
         Ok(r)
     }
 }
@@ -62,33 +62,33 @@ impl Side for High {
     }
 }
 
-// The register after all cells.
+// The register after all cells. (dividend, g and r are no struct: `stages` checks them once, and the two runs alone take them.)
 fn run<S: Side>(dividend: &[u8], g: u64, r: usize) -> u64
     requires { Fit dividend.now g r }
     ensures { Remainder (poly dividend.now * S.factor r) g result }
 {
     let mut s: u64 = 0;
-    for c in dividend {
-        s = S::shift(r, g, s, *c as u64);
+    for &c in dividend {
+        s = S::shift(r, g, s, c as u64);
     }
     s
 }
 
-// The register after all cells, with its outputs written as the quotient.
+// The register after all cells, with its outputs written as the quotient. (By places: after `quotient.iter_mut().zip(dividend)` nothing is known of the cells.)
 fn run_out(dividend: &[u8], g: u64, r: usize, quotient: &mut [u8]) -> u64
     requires fit { Fit dividend.now g r }
     requires quotient_len { length quotient.old ≡ length dividend.now }
     ensures { Quotient dividend.now g quotient.new result }
 {
     let mut s: u64 = 0;
-    for (i, c) in dividend.iter().enumerate() {
+    for (i, &c) in dividend.iter().enumerate() {
         quotient[i] = ((s >> (r - 1)) % 2) as u8;
-        s = poly::low_shift(r, g, s, *c as u64);
+        s = poly::low_shift(r, g, s, c as u64);
     }
     s
 }
 
-// Quotient and remainder.
+/// Quotient and remainder.
 pub fn divide(dividend: &[u8], divisor: u64, quotient: &mut [u8]) -> Result<u64, Refusal>
     ensures { DividesCells dividend.now divisor quotient.old quotient.new (number result) (value result) }
 {
@@ -96,7 +96,7 @@ pub fn divide(dividend: &[u8], divisor: u64, quotient: &mut [u8]) -> Result<u64,
     Ok(run_out(dividend, divisor, r, quotient))
 }
 
-// The remainder, by the register with input at the low side.
+/// The remainder, by the register with input at the low side.
 pub fn remainder_low(dividend: &[u8], divisor: u64) -> Result<u64, Refusal>
     ensures { LeavesLow dividend.now divisor (number result) (value result) }
 {
@@ -104,7 +104,7 @@ pub fn remainder_low(dividend: &[u8], divisor: u64) -> Result<u64, Refusal>
     Ok(run::<Low>(dividend, divisor, r))
 }
 
-// The remainder of x^r times the dividend, by the register with input at the high side.
+/// The remainder of x^r times the dividend, by the register with input at the high side.
 pub fn remainder_high(dividend: &[u8], divisor: u64) -> Result<u64, Refusal>
     ensures { LeavesHigh dividend.now divisor (number result) (value result) }
 {

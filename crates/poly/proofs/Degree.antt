@@ -86,9 +86,6 @@ degree_of_lem = bin_ind (λ (p : ℕ). 0 < p → Degree p (degree p)) (λ h. abs
     go p h ih (inr k) = let t = ih k in rw degree_half (omega arith)
 
 -- the degree by the leading zeros of a number of k digits, of which not all are zeros: at 64 digits it is `63 - count_leading_zeros 64 p`
-pub leading_lt : (k p : ℕ) → 0 < p → p < 2 ^ k → count_leading_zeros k p < k
-leading_lt k p h l = let t = leading_top k p h l in omega arith
-
 pub leading_degree : (k p : ℕ) → 0 < p → p < 2 ^ k → Degree p (k - 1 - count_leading_zeros k p)
 leading_degree k p h l =
     let t = leading_top k p h l in

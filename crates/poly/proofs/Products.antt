@@ -33,9 +33,6 @@ product_next p q i pos =
 pub product_large : {p q d e : ℕ} → Degree p d → Degree q e → 63 < d + e → times p q < 2 ^ 64 → ⊥
 product_large {p} {q} {d} {e} h k l b = omega (arith, power_lt (times p q) (d + e) 64 (degree-times h k).least b)
 
-pub product_small : {p q d e : ℕ} → Degree p d → Degree q e → d + e ≤ 63 → times p q < 2 ^ 64
-product_small {d = d} {e = e} h k l = lt_of_lt_of_le (degree-times h k).below (pow_mono {j = 64} (omega arith))
-
 pub times_number_settled : (p q : ℕ) {t u : ℕ} → Where (times p q < 2 ^ 64) (t ≡ times p q) (t ≡ 0)
     → Where (times p q < 2 ^ 64) (u ≡ times p q) (u ≡ 0) → t ≡ u
 times_number_settled p q = where_value

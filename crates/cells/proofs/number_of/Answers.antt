@@ -32,7 +32,7 @@ overflow_add-p c = omega (arith, read_lt c.first_bad.ensures c.if-first_bad-word
 pub loop-c-preserved : goal.loop-c-preserved
 loop-c-preserved c =
     let l = c.loop-c in
-    rw (add-one l.c-index, poly-take-suc c.args.word.now l.c-index (omega arith), l.invariant)
+    rw (add-one l.c-index, poly-take-suc c.args.word.now l.c-index (omega arith), l.invariant, c.from.ensures)
 
 pub returns : goal.returns
 returns c =

@@ -7,7 +7,7 @@ use Rattle.poly.proofs.reduced.Goals as goal
 pub returns-then-t-r-eq0 : goal.returns-then-t-r-eq0
 returns-then-t-r-eq0 c = let a = c.args in sym (reduce-zero a.r a.g a.t c.if-t-r-eq0.true)
 
-pub returns : goal.returns
-returns c =
+pub returns-else-t-r-eq0 : goal.returns-else-t-r-eq0
+returns-else-t-r-eq0 c =
     let a = c.args in
     sym (reduce_one a.r a.g a.t (omega (arith, top_digit a.r a.t c.requires.1)))
