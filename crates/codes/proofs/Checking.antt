@@ -12,7 +12,10 @@ use lib.Pow.{pow-lt, pow_mono}
 use lib.Seq.{get_or-set_same, get_or-set_other}
 use Rattle.poly.specs.Poly.{sum, Degree, Divided, Divides}
 use Rattle.poly.proofs.Degree.{degree_pos, degree_unique}
-use Rattle.poly.proofs.Division.{remainder_of, divides_remainder, remainder_divides, remainder_unique}
+use mathlib.Core.Logic.{∥∥₁_elim}
+use Rattle.std.proofs.Props.{props}
+use Rattle.poly.proofs.Computed.{divide}
+use Rattle.poly.proofs.Division.{remainder_of, divides_remainder, remainder_divides, remainder_unique, divide_remainder, divide_multiple}
 use Rattle.verdict.specs.Verdict.{Check, Verdict, Passed, Tells, Where}
 use Rattle.verdict.proofs.Verdict.{verdict_settled, verdict_passed, tells_settled, verdict_on, passed_on, passed_first, passed_last}
 use Rattle.codes.specs.Code.{Generator, MessageLength, code_checks}
@@ -78,17 +81,6 @@ module _ {n g : ℕ} (h : Generator n g) where
 pub generator_given : {n g r : ℕ} → 2 ≤ n → n ≤ 63 → Generator n g → Degree g r → Given n g r
 generator_given l m h d = rw (degree_unique d h.degree) (record { least = l; most = m; degree = h.degree; one = h.least; few = h.most })
 
-pub code_given : {n g r : ℕ} → Code n g → Where (0 < g) (Degree g r) (r ≡ 0) → Given n g r
-code_given c w =
-    let e = generator_r c.generator w in
-    record {
-      least = c.least;
-      most = c.most;
-      degree = generator_degree c.generator w;
-      one = omega (arith, e, c.generator.least);
-      few = omega (arith, e, c.generator.most);
-    }
-
 -- ---- a message has k = n - r cells
 
 pub message_room : {n g r k : ℕ} → Degree g r → r ≤ n → k ≡ n - r → MessageLength n g k
@@ -107,6 +99,28 @@ power_one n l = rw (one-mul, mod-eq_of_lt (pow-lt (let h : n < 64 = omega arith 
 pub whole_divided : {n g q s : ℕ} {Else : Type 0} → n ≤ 63 → Generator n g
     → Where ((0 < g) × (g < 2 ^ 33)) (Divided (sum ((1 * 2 ^ n) % 2 ^ 64) 1) g q s) Else → Divided (sum (2 ^ n) 1) g q s
 whole_divided {n} {g} {q} {s} l h w = subst (λ (p : ℕ). Divided p g q s) (power_one n l) (w.holds (generator_pos h, generator_lt h))
+
+-- a code that is merely known to pass passes: its numbers can be found again
+module _ {n g r : ℕ} (v : Given n g r) (t : ∥ Passed (code_checks n g) ∥₁) where
+  pub checked : Code n g
+  checked = record {
+    least = v.least;
+    most = v.most;
+    generator = record {
+      odd = ∥∥₁_elim t (Prim.hlevel props) (λ p. (code_of p).generator.odd);
+      r = r;
+      degree = v.degree;
+      least = v.one;
+      most = v.few;
+      room = ∥∥₁_elim t (Prim.hlevel props) (λ p. rw (degree_unique v.degree (code_of p).generator.degree) (code_of p).generator.room);
+    };
+    divides = divide_multiple (sum (2 ^ n) 1) (degree_pos v.degree) left;
+  }
+    where
+      left : (divide (sum (2 ^ n) 1) g).remainder ≡ 0
+      left =
+          ∥∥₁_elim t (Prim.hlevel props)
+          (λ p. remainder_unique (divide_remainder (sum (2 ^ n) 1) (degree_pos v.degree)) (remainder_divides (degree_pos v.degree) (code_of p).divides))
 
 -- g divides exactly what leaves nothing
 module _ {p g q s : ℕ} (v : Divided p g q s) where

@@ -4,14 +4,15 @@
 ghost use Rattle.std.specs.Prelude.{◌≡◌, ◌+◌, ◌*◌, ◌≤◌, ◌<◌, IfOk, IfErr, IfSome, IfNone};
 ghost use Rattle.poly.specs.Poly.{Degree, Remainder};
 ghost use Rattle.verdict.specs.Refusal.{number_of, number};
-ghost use Rattle.verdict.specs.Verdict.{Verdict, Tells};
+ghost use Rattle.verdict.specs.Verdict.{Verdict, Passed, Tells};
 ghost use Rattle.codes.specs.Code.{Generator, code_checks};
 ghost use Rattle.codes.specs.Mending.{Pattern, Carries, rule_checks};
 ghost use Rattle.codes.specs.Row.{pattern_at, pattern_count, Given, Remainders};
 
 use verdict::Refusal;
 
-/// A length and a generator that pass the checks 1 to 3, and the generator's degree.
+/// A length and a generator that pass the checks 1 to 3, and the generator's degree. (That they pass has proofs of more than one shape: a number that
+/// g is multiplied by is part of one. So it is kept in ∥ ∥₁, and `checked` in proofs/Checking gets it back.)
 #[derive(Clone, Copy)]
 pub struct Code {
     pub n: usize,
@@ -19,6 +20,7 @@ pub struct Code {
     pub r: usize,
     ghost given: { Given n g r },
     ghost room: { r < n },
+    ghost passed: { ∥ Passed (code_checks n g) ∥₁ },
 }
 
 // The degree of a generator that is odd, of a degree from 1 to 32, and below n.
@@ -50,7 +52,7 @@ impl Code {
         Ok(Code { n, g, r })
     }
 
-    /// The checks 1 to 5.
+    /// The checks 1 to 5. (A rule is a number: see `pattern_count`.)
     pub fn carrying(n: usize, g: u64, rule: u64) -> Result<Code, Refusal>
         ensures checks { Verdict (rule_checks n g rule) (number result) }
         ensures code { IfOk result (λ code. (code.n ≡ n) × (code.g ≡ g)) }
@@ -80,7 +82,7 @@ impl Code {
         }
     }
 
-    // The remainders of the first m patterns.
+    // The remainders of the first m patterns. (By places: one is made from those before it.)
     fn remainders(self, m: usize) -> [u64; 127]
         requires { m ≤ 2 * self.n + 1 }
         ensures { Remainders self.n self.g m result }
@@ -93,6 +95,7 @@ impl Code {
     }
 
     // Whether no two different patterns of the rule have the same remainder. The search over pairs of patterns stops at the first two that collide.
+    // (Two loops left by a label and no early return: the rules that this follows fix that form, docs/DECISIONS.md.)
     fn carries(self, rule: u64) -> bool
         ensures { Tells (Carries (Pattern self.n rule) self.g) result }
     {
@@ -111,7 +114,8 @@ impl Code {
     }
 }
 
-// How many patterns the rule has.
+// How many patterns the rule has. (A rule is a number, as callers and the reader's layout for C have it, and its patterns are those of the rules below
+// it and more: an enum would be turned into that number here and at each comparison.)
 fn pattern_count(n: usize, rule: u64) -> usize
     requires { n ≤ 63 }
     ensures count { result ≡ pattern_count n rule }
@@ -141,7 +145,8 @@ pub fn check_rule(n: usize, g: u64, rule: u64) -> Result<(), Refusal>
     Ok(())
 }
 
-// Whether a number is one of 1 to 5: those of a code and a rule come before those of cells and words.
+/// Whether a number is one of 1 to 5: those of a code and a rule come before those of cells and words. (Of a number and not of a `Refusal`: a leaf takes
+/// anything, docs/DECISIONS.md.)
 pub fn comes_first(m: u64) -> bool
     ensures { Tells ((0 < m) × (m < 6)) result }
 {

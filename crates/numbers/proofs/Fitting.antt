@@ -3,13 +3,13 @@
 use mathlib.Core.Path.{◌≡◌, refl, ◌∙◌}
 use mathlib.Core.List.{[], ◌∷◌, ◌++◌}
 use Prim.Native.Nat.{ℕ, ◌+◌, ◌-◌, ◌*◌, ◌/◌, ◌%◌, ◌^◌, ◌≤◌, ◌<◌}
-use native.Mathlib.Nat.{lt_of_lt_of_le, div-eq_of_lt, mul-one, mul_assoc, pow-suc}
+use native.Mathlib.Nat.{lt_of_lt_of_le, div-eq_of_lt, mul_assoc, pow-suc}
 use native.Mathlib.Numerals.{add-one}
 use native.Mathlib.Omega.{arith}
 use lib.Pow.{pow_mono, shl_exact}
 use Rattle.poly.specs.Poly.{sum, times, Degree, Divided, Remainder}
 use Rattle.poly.proofs.Times.{times_comm}
-use Rattle.poly.proofs.Degree.{degree_pos, degree_unique, high_zero}
+use Rattle.poly.proofs.Degree.{degree_unique, high_zero}
 use Rattle.poly.proofs.Division.{remainder_of, remainder_double}
 use Rattle.poly.specs.Shifts.{Ready, low}
 use Rattle.poly.proofs.Shifting.{zero_ready}
@@ -69,10 +69,6 @@ module _ {n g d : ℕ} (p : Passed (code_checks n g ++ (message_check n g d ∷ 
   passed_message = (passed_last (code_checks n g) (message_check n g d ∷ []) p).0
 
 -- ---- x^i times e
-
-pub shift_none : {e g r q s : ℕ} → Degree g r → r ≤ 32 → Where ((0 < g) × (g < 2 ^ 33)) (Divided e g q s) ((q ≡ 0) × (s ≡ 0)) → Remainder (e * 2 ^ 0) g s
-shift_none {e} h l v =
-    rw (mul-one e) (remainder_of (v.holds (degree_pos h, lt_of_lt_of_le h.below (pow_mono {j = 33} (omega arith)))))
 
 pub shift_next : {g r p q : ℕ} (e i : ℕ) → Degree g r → r ≤ 32 → Remainder (e * 2 ^ i) g p → Where (Ready r g p 0) (q ≡ low r g p 0) (q ≡ 0)
     → Remainder (e * 2 ^ (i + 1)) g q

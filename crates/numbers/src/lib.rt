@@ -9,7 +9,6 @@ ghost use Rattle.codes.specs.Mending.{Pattern};
 ghost use Rattle.codes.specs.Coding.{Systematic, Product, First};
 ghost use Rattle.codes.specs.Calls.{message_check, Encodes, Leaves, Decodes};
 ghost use Rattle.codes.specs.Finding.{FindsCode};
-ghost use Rattle.codes.proofs.Checking.{Code as Checked};
 ghost use Rattle.numbers.specs.Finding.{FirstShift, Finds, code_found, mended_found};
 ghost use Rattle.numbers.specs.Results.{message, mended};
 
@@ -81,8 +80,8 @@ fn first_shift(code: Code, e: u64, s: u64, m: usize) -> Option<usize>
 }
 
 // The pattern of the rule that has the remainder s. (3 is two neighbouring cells; shifted to x^(n-1) it goes over the end, and is the two ends.)
+// (The rule is a number: see `pattern_count` in codes.)
 fn find(code: Code, rule: u64, s: u64) -> Option<u64>
-    requires { Checked code.n code.g }
     ensures { Finds (Pattern code.n rule) code.g s result }
 {
     let n = code.n;
@@ -141,7 +140,7 @@ pub fn decode_systematic(n: usize, g: u64, rule: u64, word: u64) -> Result<Decod
     })
 }
 
-/// The same with its quotient by g.
+/// The message of the code word that differs from a word in a pattern of the rule: its quotient by g.
 pub fn decode_product(n: usize, g: u64, rule: u64, word: u64) -> Result<Decoding, Refusal>
     ensures { Decodes Product n g rule word (number result) (message result) (mended result) }
 {

@@ -11,9 +11,6 @@ use Rattle.numbers.proofs.find_code.Goals as goal
 pub returns-then-word-n-ne0 : goal.returns-then-word-n-ne0
 returns-then-word-n-ne0 c = word_refused (allowed_zero c.in_ok-code.ensures.checks refl) (λ l. c.if-word-n-ne0.true (div-eq_of_lt l))
 
-pub find-requires : goal.find-requires
-find-requires c = let e = c.in_ok-code.ensures.code in rw (e.0, e.1) (allowed_zero c.in_ok-code.ensures.checks refl).code
-
 pub returns-in_default : goal.returns-in_default
 returns-in_default c =
     let e = c.in_ok-code.ensures.code in
