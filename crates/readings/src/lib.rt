@@ -13,18 +13,15 @@ use verdict::Refusal;
 /// Which of two words is taken.
 #[derive(Clone, Copy, Debug, PartialEq, Eq)]
 pub enum Taken {
-    First,
-    Second,
+    First = 1,
+    Second = 2,
 }
 
 impl From<Taken> for u64 {
     ghost from_gives = { λ taken number. number ≡ word_number taken };
 
     fn from(taken: Taken) -> u64 {
-        match taken {
-            Taken::First => 1,
-            Taken::Second => 2,
-        }
+        taken as u64
     }
 }
 
@@ -57,9 +54,8 @@ fn choose(n: usize, g: u64, rule: u64, first: &[u8], second: &[u8]) -> Result<Ta
     if first.len() != n || second.len() != n {
         return Err(Refusal::Lent);
     }
-    if cells::first_bad(first) < n || cells::first_bad(second) < n {
-        return Err(Refusal::Cell);
-    }
+    cells::check(first)?;
+    cells::check(second)?;
     let y = numbers::decode_systematic(n, g, rule, cells::number_of(second));
     weigh(x, y)
 }
@@ -75,7 +71,7 @@ pub fn better<'a>(n: usize, g: u64, rule: u64, first: &'a [u8], second: &'a [u8]
     }
 }
 
-/// The number that goes with it: 0 exactly if cells are handed back.
+/// The number that goes with `better`: 0 exactly if it hands back cells.
 pub fn better_number(
     n: usize,
     g: u64,
@@ -89,7 +85,7 @@ pub fn better_number(
     Ok(())
 }
 
-/// Which of the two words that is, for callers that cannot be handed a slice.
+/// Which of the two words `better` hands back, for callers that cannot be handed a slice.
 pub fn better_word(n: usize, g: u64, rule: u64, first: &[u8], second: &[u8]) -> Option<Taken>
     ensures { Picks n g rule first.now second.now 1 2 (λ h. h ≡ 0) (taken_number result) }
 {

@@ -1,6 +1,6 @@
 -- From a call on numbers to the same call on lent cells: its refusals, the checks of the cells behind them, and what was done.
 -- Assumes nothing.
-use mathlib.Core.Path.{◌≡◌, refl}
+use mathlib.Core.Path.{ap, ◌≡◌, refl}
 use mathlib.Core.List.{List, [], ◌∷◌, ◌++◌}
 use mathlib.Core.Logic.{◌⊎◌, inl, inr}
 use Prim.Native.Nat.{ℕ, ◌-◌, ◌^◌, ◌≤◌, ◌<◌}
@@ -10,6 +10,10 @@ use Rattle.poly.specs.Poly.{Degree}
 use Rattle.poly.specs.Cells.{Cells, poly}
 use Rattle.poly.proofs.Cells.{poly_lt}
 use Rattle.cells.specs.Lent.{cells_check}
+use Rattle.std.specs.Prelude.{Result, Ok, Err, MatchResult}
+use Rattle.verdict.specs.Refusal.{number_of, number}
+use Rattle.verdict.specs.declared.Refusal.{Refusal}
+use Rattle.verdict.specs.declared.Refusal.TheVariants.{Cell}
 use Rattle.verdict.specs.Verdict.{Check, Verdict, Passed, Where}
 use Rattle.verdict.proofs.Verdict.{verdict_on, verdict_stop, passed_on, verdict_passed, settles_yes, settles_no}
 use Rattle.codes.specs.Code.{code_checks, MessageLength}
@@ -39,6 +43,12 @@ module _ {n g r : ℕ} (code : Code n g) (w : Where (0 < g) (Degree g r) (r ≡ 
 -- and by a word of another
 pub word_wrong : {n g k l : ℕ} → (l ≡ n → ⊥) → (lengths_check n g k l).passes → ⊥
 word_wrong f h = f h.1
+
+-- the check of the cells, as it is handed back
+pub cells_verdict : (w : List ℕ) (r : Result (Unit {0}) Refusal) → MatchResult r (λ _. Cells w) (λ e. (e ≡ Cell) × (Cells w → ⊥))
+    → Verdict (cells_check w ∷ []) (number r)
+cells_verdict w (Ok x) h = inr (h, refl)
+cells_verdict w (Err e) h = inl (h.1, ap number_of h.0)
 
 -- ---- encoders
 

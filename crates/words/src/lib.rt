@@ -100,21 +100,19 @@ impl Coding for ByProduct {
     ghost fits = { λ n g c d k p l a. product_fits p l a };
 }
 
-// The checks of lent cells behind those of a code: a message of k cells, a word of n, and input cells of 0 and 1.
-fn lent(n: usize, g: u64, message: usize, word: usize, input: &[u8]) -> Result<(), Refusal>
+// The checks of lent cells behind those of a code: a message of k cells, a word of n, and input cells of 0 and 1. (n and g are no `Code`: the calls on numbers
+// check them and hand back none.)
+fn lent(n: usize, g: u64, message_len: usize, word_len: usize, input: &[u8]) -> Result<(), Refusal>
     requires { Code n g }
-    ensures { Verdict (lengths_check n g message word ∷ cells_check input.now ∷ []) (number result) }
+    ensures { Verdict (lengths_check n g message_len word_len ∷ cells_check input.now ∷ []) (number result) }
 {
-    if message != n - poly::degree_of(g) || word != n {
+    if message_len != n - poly::degree_of(g) || word_len != n {
         return Err(Refusal::Lent);
     }
-    if cells::first_bad(input) < input.len() {
-        return Err(Refusal::Cell);
-    }
-    Ok(())
+    cells::check(input)
 }
 
-// An encoder, with its word written into the lent cells.
+// An encoder, with its word written into the lent cells. The call on numbers comes first, since code and rule are checked there, and there alone.
 fn encode<C: Coding>(n: usize, g: u64, message: &[u8], word: &mut [u8]) -> Result<(), Refusal>
     ensures { EncodesCells C.encoded n g message.now word.old word.new (number result) }
 {
@@ -147,14 +145,12 @@ pub fn remainder(n: usize, g: u64, word: &[u8]) -> Result<u64, Refusal>
     if word.len() != n {
         return Err(Refusal::Lent);
     }
-    if cells::first_bad(word) < n {
-        return Err(Refusal::Cell);
-    }
+    cells::check(word)?;
     let parts = poly::divide_number(cells::number_of(word), g);
     Ok(parts.remainder)
 }
 
-// A decoder, with its message written into the lent cells, and the count of mended cells.
+// A decoder, with its message written into the lent cells, and the count of mended cells. As in `encode` the call on numbers comes first.
 fn decode<C: Coding>(
     n: usize,
     g: u64,
@@ -185,7 +181,7 @@ pub fn decode_systematic(
     decode::<BySystematic>(n, g, rule, word, message)
 }
 
-/// The same with its quotient by g.
+/// The message of the code word that differs from a word in a pattern of the rule: its quotient by g.
 pub fn decode_product(
     n: usize,
     g: u64,

@@ -1,34 +1,23 @@
 -- Lengths first, then the cells.
 use mathlib.Core.Logic.{inl, inr}
 use mathlib.Core.Path.{refl}
-use Rattle.cells.proofs.Lent.{first_bad_cells, first_bad_none}
-use Rattle.words.proofs.Lending.{length_room, length_right, message_wrong, word_wrong}
+use Rattle.words.proofs.Lending.{length_room, length_right, message_wrong, word_wrong, cells_verdict}
 use Rattle.words.proofs.lent.Goals as goal
-use Rattle.words.proofs.lent.Goals.{then-message-n-via-then-message-n, then-message-n-via-else-message-n+then-word-n}
+use Rattle.words.proofs.lent.Goals.{then-message_len-n-via-then-message_len-n, then-message_len-n-via-else-message_len-n+then-word_len-n}
 
 pub overflow_sub-n : goal.overflow_sub-n
 overflow_sub-n c = length_room c.requires c.degree_of.ensures
 
-pub returns-then-message-n : goal.returns-then-message-n
-returns-then-message-n c =
+pub returns-then-message_len-n : goal.returns-then-message_len-n
+returns-then-message_len-n c =
     inl (
-      (elim c.then-message-n.branch [
-        | then-message-n-via-then-message-n w ↦ message_wrong c.requires c.degree_of.ensures w.if-message-n.true
-        | then-message-n-via-else-message-n+then-word-n w ↦ word_wrong w.if-word-n.true
+      (elim c.then-message_len-n.branch [
+        | then-message_len-n-via-then-message_len-n w ↦ message_wrong c.requires c.degree_of.ensures w.if-message_len-n.true
+        | then-message_len-n-via-else-message_len-n+then-word_len-n w ↦ word_wrong w.if-word_len-n.true
       ]),
       refl,
     )
 
-pub returns-then-first_bad-input : goal.returns-then-first_bad-input
-returns-then-first_bad-input c =
-    inr (
-      (length_right c.requires c.degree_of.ensures c.if-message-n.false, c.if-word-n.false),
-      inl (first_bad_none c.first_bad.ensures c.if-first_bad-input.true, refl),
-    )
-
 pub returns : goal.returns
 returns c =
-    inr (
-      (length_right c.requires c.degree_of.ensures c.if-message-n.false, c.if-word-n.false),
-      inr (first_bad_cells c.first_bad.ensures c.if-first_bad-input.false, refl),
-    )
+    inr ((length_right c.requires c.degree_of.ensures c.if-message_len-n.false, c.if-word_len-n.false), cells_verdict c.args.input.now c.check.result c.check.ensures)
