@@ -8,17 +8,17 @@ ghost use Rattle.poly.specs.Register.{held, low_shift, added};
 ghost use Rattle.verdict.specs.Verdict.{Tells};
 ghost use Rattle.verdict.specs.Refusal.{number, value};
 ghost use Rattle.codes.specs.Mending.{Pattern};
-ghost use Rattle.codes.specs.Row.{Given};
 ghost use Rattle.codes.specs.Coding.{First};
 ghost use Rattle.codes.specs.Calls.{DecodesCells};
 ghost use Rattle.reader.specs.Reader.{Row, InForm, fresh, started, clocked, Starts, Looks, Loads, Gives, Clocks, Answers};
 ghost use Rattle.reader.specs.Demand.{Reached};
 ghost use Rattle.reader.specs.Within.{Halves, Triggers};
 
+use codes::Code;
 use verdict::Refusal;
 
-// A reader as it stands. Stage i is for x^i; the cells are stored first cell first.
-// The C interface (`plate_clock`) takes and hands back these fields: a row of 63 cells with n beside it, and the rule by its number.
+/// A reader as it stands. Stage i is for x^i; the cells are stored first cell first.
+/// The C interface (`plate_clock`) takes and hands back these fields: a row of 63 cells with n beside it, and the rule by its number.
 #[repr(C)]
 #[derive(Clone, Copy)]
 pub struct Reader {
@@ -31,17 +31,16 @@ pub struct Reader {
     pub cells: [u8; 63],
 }
 
-// A reader in form, and the degree of its generator.
+// A reader in form, and its code. (A ghost fact is kept as a proposition, and `InForm` is truncated to be one: its parts are got back by `opened`.)
 #[derive(Clone, Copy)]
 struct Formed {
     reader: Reader,
-    r: usize,
-    ghost given: { Given reader.n reader.g r },
-    ghost room: { r < reader.n },
+    code: Code,
+    ghost own: { (code.n ≡ reader.n) × (code.g ≡ reader.g) },
     ghost form: { ∥ InForm reader ∥₁ },
 }
 
-// What a clock hands back: the cell given out, and the next reader; a refused clock gives the reader back.
+/// What a clock hands back: the cell given out, and the next reader; a refused clock gives the reader back.
 #[derive(Clone, Copy)]
 pub struct Clocked {
     pub given: Result<u8, Refusal>,
@@ -56,8 +55,8 @@ fn held_in(stages: [u8; 32]) -> u64
     ensures { result ≡ held stages }
 {
     let mut p: u64 = 0;
-    for i in (0..32).rev() {
-        p = p * 2 + (stages[i] as u64);
+    for &cell in stages.iter().rev() {
+        p = p * 2 + u64::from(cell);
     }
     p
 }
@@ -66,10 +65,7 @@ fn held_in(stages: [u8; 32]) -> u64
 fn fed(cell: u8, p: u64, f: u8) -> u8
     ensures { result ≡ sum cell (p % 2 * f) }
 {
-    if p % 2 == 1 {
-        return cell ^ f;
-    }
-    cell
+    if p % 2 == 1 { cell ^ f } else { cell }
 }
 
 // One shift of the register, with input at the low side.
@@ -85,7 +81,7 @@ fn shift(stages: [u8; 32], input: u8, g: u64, r: usize) -> [u8; 32]
         let here = *stage;
         *stage = fed(below, rest, f);
         below = here;
-        rest = rest / 2;
+        rest /= 2;
     }
     t
 }
@@ -98,7 +94,7 @@ fn add(stages: [u8; 32], p: u64) -> [u8; 32]
     let mut rest = p;
     for stage in t.iter_mut() {
         *stage = fed(*stage, rest, 1);
-        rest = rest / 2;
+        rest /= 2;
     }
     t
 }
@@ -108,10 +104,7 @@ fn halved(g: u64, s: u64) -> u64
     requires { g % 2 ≡ 1 }
     ensures { Halves g s result }
 {
-    if s % 2 == 0 {
-        return s / 2;
-    }
-    (s ^ g) / 2
+    if s % 2 == 0 { s / 2 } else { (s ^ g) / 2 }
 }
 
 // Whether the cells are 0 or 1, and 0 from place k on.
@@ -132,7 +125,7 @@ impl Formed {
         ensures some { IfSome result (λ formed. formed.reader ≡ reader) }
         ensures none { IfNone result (InForm reader → ⊥) }
     {
-        let Ok(code) = codes::Code::carrying(reader.n, reader.g, reader.rule) else {
+        let Ok(code) = Code::carrying(reader.n, reader.g, reader.rule) else {
             return None;
         };
         let past = reader.clocks.saturating_sub(reader.n) as u64;
@@ -142,7 +135,7 @@ impl Formed {
         if !row_fits(&reader.stages, code.r) || !row_fits(&reader.cells, reader.n) {
             return None;
         }
-        Some(Formed { reader, r: code.r })
+        Some(Formed { reader, code })
     }
 
     // ---- one clock
@@ -154,7 +147,7 @@ impl Formed {
     {
         let mut next = self.reader;
         next.cells[next.clocks] = input;
-        next.stages = shift(next.stages, input, next.g, self.r);
+        next.stages = shift(next.stages, input, next.g, self.code.r);
         next.clocks += 1;
         Clocked {
             given: Ok(0),
@@ -164,7 +157,7 @@ impl Formed {
 
     // Whether the register is the remainder of x^i times a pattern that has cell i. The ends are joined and x^n leaves 1, so what these patterns
     // leave is the same for every cell: u, the remainder of x^(n-1), for the cell alone, u + 1 with the cell before it, and u + the remainder of
-    // x^(n-2) with the cell after it.
+    // x^(n-2) with the cell after it. (The rule is a number: the reader's layout for C keeps one, and `Pattern` goes by 1 ≤ rule and 2 ≤ rule.)
     fn triggers(self) -> bool
         ensures { Triggers self.reader result }
     {
@@ -203,7 +196,7 @@ impl Formed {
     {
         let i = self.reader.clocks - self.reader.n;
         let mut next = self.look(i);
-        next.stages = shift(next.stages, 0, self.reader.g, self.r);
+        next.stages = shift(next.stages, 0, self.reader.g, self.code.r);
         next.clocks += 1;
         Clocked {
             given: Ok(next.cells[i]),
@@ -225,7 +218,7 @@ impl Reader {
 
     // ---- the calls
 
-    // A start with n, g and a rule: a reader that stores zeros.
+    /// A start with n, g and a rule: a reader that stores zeros.
     pub fn start(n: usize, g: u64, rule: u64) -> Result<Reader, Refusal>
         ensures { Starts n g rule (started result) }
     {
@@ -241,7 +234,7 @@ impl Reader {
         })
     }
 
-    // One clock takes the reader as it stands and gives the next.
+    /// One clock takes the reader as it stands and gives the next.
     pub fn clock(self, cell: u8) -> Clocked
         ensures { Clocks self cell (clocked result) }
     {
@@ -261,7 +254,7 @@ impl Reader {
         }
     }
 
-    // After 2n clocks: the message, written into k lent cells, and the count of mended cells.
+    /// After 2n clocks: the message, written into k lent cells, and the count of mended cells.
     pub fn answer(self, message: &mut [u8]) -> Result<u64, Refusal>
         ensures { Answers self message.old message.new (number result) (value result) }
     {
@@ -269,7 +262,7 @@ impl Reader {
         if self.clocks != 2 * self.n {
             return Err(Refusal::Form);
         }
-        if message.len() != self.n - formed.r {
+        if message.len() != self.n - formed.code.r {
             return Err(Refusal::Lent);
         }
         if held_in(self.stages) != 0 {
@@ -280,7 +273,7 @@ impl Reader {
     }
 }
 
-// A word's cells, and then zeros, into a reader that stores zeros: 2n clocks.
+// A word's cells, and then zeros, into a reader that stores zeros: 2n clocks. (No chain of the cells and zeros: a word of another length gets 2n clocks too.)
 fn through(first: Reader, word: &[u8]) -> Reader
     requires { (first.n ≤ 63) × (first ≡ fresh first.n first.g first.rule) }
     ensures { Reached first.n first.g first.rule word.now (first.n + first.n) result }
@@ -292,7 +285,8 @@ fn through(first: Reader, word: &[u8]) -> Reader
     reader
 }
 
-// A lent word read by the clocked reader: started, clocked 2n times and asked for its answer.
+/// A lent word read by the clocked reader: started, clocked 2n times and asked for its answer. (Its look at the lent cells is that of `lent` in words, which
+/// is private there.)
 pub fn read(n: usize, g: u64, rule: u64, word: &[u8], message: &mut [u8]) -> Result<u64, Refusal>
     ensures { DecodesCells First n g rule word.now message.old message.new (number result) (value result) }
 {
@@ -300,8 +294,6 @@ pub fn read(n: usize, g: u64, rule: u64, word: &[u8], message: &mut [u8]) -> Res
     if message.len() != n - poly::degree_of(g) || word.len() != n {
         return Err(Refusal::Lent);
     }
-    if cells::first_bad(word) < n {
-        return Err(Refusal::Cell);
-    }
+    cells::check(word)?;
     through(first, word).answer(message)
 }

@@ -6,5 +6,5 @@ use native.Mathlib.Omega.{arith}
 use Rattle.poly.proofs.Sum.{sum-zero}
 use Rattle.reader.proofs.fed.Goals as goal
 
-pub returns : goal.returns
-returns c = let z : c.args.p % 2 ≡ 0 = omega arith in rw (z, zero-mul) (sym (sum-zero c.args.cell))
+pub returns-else-p-eq1 : goal.returns-else-p-eq1
+returns-else-p-eq1 c = let z : c.args.p % 2 ≡ 0 = omega arith in rw (z, zero-mul) (sym (sum-zero c.args.cell))

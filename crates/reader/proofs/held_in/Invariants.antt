@@ -1,8 +1,6 @@
--- p is what the stages from i on hold.
-use mathlib.Core.Path.{◌≡◌}
-use lib.ListN.{drop}
-use Rattle.poly.specs.Register.{held}
+-- p is what the stages passed hold.
+use Rattle.reader.proofs.Filling.{Back}
 use Rattle.reader.proofs.held_in.Given as goal
 
-abbrev pub invariant-loop-i : goal.invariant-loop-i
-invariant-loop-i l = l.p ≡ held (drop l.i l.stages)
+abbrev pub invariant-loop-cell : goal.invariant-loop-cell
+invariant-loop-cell l = Back l.fn.stages l.cell-iterator.iter.rest.now l.p

@@ -4,11 +4,10 @@ use mathlib.Core.Logic.{inl, inr}
 use mathlib.Core.Path.{◌≡◌, refl}
 use Prim.Native.Nat.{ℕ, suc, ◌<◌}
 use Rattle.poly.specs.Poly.{Degree}
-use Rattle.poly.specs.Cells.{Cells, poly}
+use Rattle.poly.specs.Cells.{poly}
 use Rattle.verdict.specs.Verdict.{Check, Verdict, Passed, Where}
-use Rattle.verdict.proofs.Verdict.{verdict_passed, verdict_on, settles_refused}
+use Rattle.verdict.proofs.Verdict.{verdict_passed, verdict_on, settles_refused, refused_as}
 use Rattle.cells.specs.Lent.{cells_check}
-use Rattle.cells.proofs.Lent.{first_bad_cells, first_bad_none}
 use Rattle.codes.specs.Mending.{rule_checks}
 use Rattle.codes.specs.Coding.{First}
 use Rattle.codes.specs.Calls.{DecodesCells, slices_check, readable_check}
@@ -61,22 +60,22 @@ returns-then-message-n c =
       refl,
     ))
 
-pub returns-then-first_bad-n : goal.returns-then-first_bad-n
+pub returns-in_err-check : goal.returns-in_err-check
 unfolding later
-returns-then-first_bad-n c =
+returns-in_err-check c =
     let a = c.args in
     let code = passed c.in_ok-first.ensures in
-    refused a.n a.g a.rule a.message.now a.word.now code
+    rw (refused_as c.from_residual-in_err-check.result c.from_residual-in_err-check.ensures.1, c.in_err-check.ensures.0)
+    (refused a.n a.g a.rule a.message.now a.word.now code
     (inr (
       (message_room (found_degree code c.degree_of.ensures) (le_of_lt (below code c.degree_of.ensures)) c.if-message-n.false, c.if-word-n.false),
-      inl (first_bad_none c.first_bad.ensures (omega (arith, c.if-first_bad-n.true, c.if-word-n.false)), refl),
-    ))
+      inl (c.in_err-check.ensures.1, refl),
+    )))
 
 pub returns : goal.returns
 returns c =
     let a = c.args in
     let code = passed c.in_ok-first.ensures in
-    let cells : Cells a.word.now = first_bad_cells c.first_bad.ensures (omega (arith, c.if-first_bad-n.false, c.if-word-n.false)) in
-    reader_decodes code a.word.now c.if-word-n.false cells c.through.result
+    reader_decodes code a.word.now c.if-word-n.false c.in_ok-check.ensures c.through.result
     (reached_own a.word.now c.through.result (c.in_ok-first.ensures.done refl) c.through.ensures)
     a.message.now c.answer.ensures

@@ -1,5 +1,6 @@
 -- The trigger decides, and what a mended reader has is written field by field.
 use mathlib.Core.Logic.{inl}
+use native.Mathlib.Omega.{arith}
 use Rattle.reader.proofs.Form.{form_code, opened}
 use Rattle.reader.proofs.Rounds.{halved_effect}
 use Rattle.reader.proofs.Formed.look.Goals as goal
@@ -14,3 +15,9 @@ returns-then-triggers c =
         after = rw c.add-next.ensures;
       },
     )
+
+pub halved-requires : goal.halved-requires
+halved-requires c = (form_code (opened c.args.self.form)).generator.odd
+
+pub overflow_add-next : goal.overflow_add-next
+overflow_add-next c = let f = opened c.args.self.form in omega (arith, f.count, f.clocks, (form_code f).most)

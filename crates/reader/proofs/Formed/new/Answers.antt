@@ -29,8 +29,7 @@ invariant_of-result c =
     let r = c.args.reader in
     let given = own c.in-Ok.ensures.code c.in-Ok.code.given in
     record {
-      given = given;
-      room = omega (arith, c.in-Ok.code.room, c.in-Ok.ensures.code.0);
+      own = c.in-Ok.ensures.code;
       form = merely
           (form_of (verdict_passed (rule_checks r.n r.g r.rule) tt c.in-Ok.ensures.checks refl) given.degree (search rules)
           (c.row_fits.ensures.yes c.if-not-row_fits.false) (search rules) (c.row_fits-else-not-row_fits.ensures.yes c.if-not-row_fits-2.false)

@@ -19,8 +19,8 @@ checks : Reader → List ℕ → List Check
 checks reader message = answer_check reader ∷ message_check reader message ∷ empty_check reader ∷ []
 
 -- what is known of the reader that was found in form is known of the one that was given
-own : {reader : Reader} (f : Formed) → f.reader ≡ reader → InForm reader × Given reader.n reader.g f.r × (f.r < reader.n)
-own f e = (opened_own e f.form, rw e at f.given, rw e at f.room)
+own : {reader : Reader} (f : Formed) → f.reader ≡ reader → InForm reader × Given reader.n reader.g f.code.r × (f.code.r < reader.n)
+own f e = (opened_own e f.form, rw (f.own.0, f.own.1, e) at f.code.given, rw (f.own.0, e) at f.code.room)
 
 pub returns-then-message-self : goal.returns-then-message-self
 unfolding checks
