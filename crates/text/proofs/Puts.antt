@@ -1,12 +1,12 @@
 -- Text put into a slice: two puts in a row are one of both texts, and two results are equal.
 -- Assumes nothing.
 use mathlib.Core.Path.{◌≡◌, refl, sym, ap, ◌∙◌}
-use mathlib.Core.List.{List, [], ◌++◌, append_assoc}
+use mathlib.Core.List.{List, ◌++◌, append_assoc}
 use mathlib.Core.Logic.{⊎_elim}
 use Prim.Native.Nat.{ℕ, ◌+◌, ◌<◌, ◌≤◌}
-use native.Mathlib.Nat.{add_assoc, add-zero}
+use native.Mathlib.Nat.{add_assoc}
 use native.Mathlib.Omega.{arith}
-use lib.ListN.{length, take, drop, length-append, length-drop, take-append-drop}
+use lib.ListN.{length, take, drop, length-append, length-drop}
 use lib.Seq.{length-take-le, take-append-le, take-take, take_at, drop_at, drop-drop}
 use Rattle.text.specs.Text.{written, Puts, decimal}
 use Rattle.text.proofs.Order.{le_or_lt}
@@ -53,11 +53,6 @@ module _ {text out : List ℕ} {at : ℕ} where
 
   pub puts_full : length out < at + length text → Puts text out at out at
   puts_full l = record { fits = λ room. let b : ⊥ = omega arith in absurd b; full = λ _. (refl, refl) }
-
--- a text of no bytes is put, at any place, by doing nothing
-pub puts_empty : (out : List ℕ) (at : ℕ) → Puts [] out at out at
-puts_empty out at =
-    record { fits = λ _. (sym (add-zero at), rw add-zero (sym (take-append-drop at out))); full = λ _. (refl, refl) }
 
 module _ {text out out' : List ℕ} {at end : ℕ} (p : Puts text out at out' end) where
   either : {A : Type 0} → (at + length text ≤ length out → end ≡ at + length text → out' ≡ written text out at → A)

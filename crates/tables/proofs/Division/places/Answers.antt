@@ -3,7 +3,7 @@ use Rattle.std.proofs.Math.Nat.{not-suc-le-zero}
 use Rattle.std.proofs.lemmas.List.{length-replicate, get_or-replicate}
 use Rattle.families.specs.Families.{lengths}
 use Rattle.tables.proofs.Entering.{entered_none}
-use Rattle.tables.proofs.places.Goals as goal
+use Rattle.tables.proofs.Division.places.Goals as goal
 
 pub loop-f-init : goal.loop-f-init
 loop-f-init c = record {
