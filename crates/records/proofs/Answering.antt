@@ -2,10 +2,9 @@
 -- Assumes nothing.
 use mathlib.Core.Path.{◌≡◌, refl, ap, ◌∙◌}
 use mathlib.Core.Bool.{Bool, true, false, cond}
-use mathlib.Core.List.{List}
 use mathlib.Core.Logic.{inl, inr}
 use Prim.Native.Nat.{ℕ, ◌+◌, ◌-◌, ◌*◌, ◌/◌, ◌^◌, ◌≤◌, ◌<◌}
-use native.Mathlib.Nat.{mul-le-mul, zero-div, div-eq_of_lt, lt_of_lt_of_le}
+use native.Mathlib.Nat.{zero-div, div-eq_of_lt, lt_of_lt_of_le}
 use native.Mathlib.Omega.{arith}
 use borrow.Author.Tests.{eqb-true, eqb-false}
 use lib.Count.{ones}
@@ -13,14 +12,14 @@ use lib.Dec.{eqb, lit<}
 use lib.ListN.{get_or}
 use lib.Pow.{pow_pos, pow_mono, shl_lt}
 use Rattle.poly.specs.Poly.{sum, times, Degree, Remainder}
-use Rattle.poly.proofs.Degree.{high_zero}
+use Rattle.poly.proofs.Degree.{high_zero, times_lt}
+use Rattle.poly.proofs.Times.{times_comm}
 use Rattle.poly.proofs.Division.{lower_zero, divided_lower, quotient_unique}
 use Rattle.verdict.specs.Verdict.{Verdict, Tells}
 use Rattle.verdict.proofs.Verdict.{verdict_on, tells_yes, tells_no}
 use Rattle.codes.specs.Code.{code_checks}
 use Rattle.codes.specs.Mending.{Pattern, Carries, carry_checks}
 use Rattle.codes.specs.Coding.{Systematic, Product, First}
-use Rattle.codes.specs.Row.{pattern_at, pattern_count}
 use Rattle.codes.specs.Finding.{FindsCode}
 use Rattle.codes.proofs.Checking.{Code, Allowed, of_code, generator_pos}
 use Rattle.codes.specs.Calls.{MessageFits}
@@ -28,19 +27,15 @@ use Rattle.codes.proofs.Calls.{code_shorter, message_fits, message_below, encode
 use Rattle.codes.proofs.Coding.{quotient_product}
 use Rattle.codes.proofs.Finding.{code_refused, pattern_found, none_found, found_divides, found_decodes}
 use Rattle.families.specs.Families.{generators, pairs}
-use Rattle.families.proofs.Families.{family_shown, family_code, family_long}
-use Rattle.tables.specs.Tables.{Packed, Place, Places, Family, highest}
+use Rattle.families.proofs.Families.{family_shown, family_code}
+use Rattle.tables.specs.Tables.{Packed, Has, Family, highest}
 use Rattle.tables.specs.declared.Plate.{Plate}
 use Rattle.tables.proofs.Packing.{packed_lower}
-use Rattle.tables.proofs.Entering.{remainder_small}
-use Rattle.tables.proofs.Reading.{highest_carried, rule_carried, place_found, place_missing}
+use Rattle.tables.proofs.Plates.{plate_highest, plate_carries}
 use Rattle.records.specs.Records.{Job, E, P, S, D, Q, RuleFits, WordFits, Calls}
 use Rattle.records.specs.Steps.{Answered}
 
 -- number 9 where rule or word does not fit, and what the call gives where they do
-pub nine : (job : Job) {n g rule w : ℕ} → (RuleFits job rule → WordFits job n g w → ⊥) → Answered job n g rule w 9 0 0
-nine job f = record { digits = (omega arith, omega arith); refused = λ _. (refl, refl, refl); done = λ a b. absurd (f a b) }
-
 called : (job : Job) {n g rule w number count value : ℕ} → RuleFits job rule → WordFits job n g w → number < 10 → count < 10
     → Calls job n g rule w number count value → Answered job n g rule w number count value
 called job a b l m k = record { digits = (l, m); refused = λ f. absurd (f a b); done = λ _ _. k }
@@ -64,6 +59,12 @@ module _ {n g r : ℕ} (c : Code n g) (h : Degree g r) where
   message_room d l =
       let all : n - r + r ≡ n = omega (arith, code_shorter c h) in
       lt_of_lt_of_le (rw all at (shl_lt (n - r) r l)) (pow_mono {j = 63} c.most)
+
+  -- and so does its product
+  pub message_product : (d : ℕ) → d < 2 ^ (n - r) → times g d < 2 ^ 64
+  message_product d l =
+      let all : n - r + r ≡ n = omega (arith, code_shorter c h) in
+      rw times_comm (lt_of_lt_of_le (rw all at (times_lt (n - r) r d g l h.below)) (pow_mono {j = 64} (omega (arith, c.most))))
 
   -- ---- encoders, and the remainder
 
@@ -139,37 +140,18 @@ module _ {f n r : ℕ} (h : Family f n r) where
           let two : rule ≡ 2 = omega arith in
           (family_shown f h.row).pairs.no e (rw (h.length, two) at k)
 
-  module _ (rule w : ℕ) (below : w < 2 ^ n) (l : rule ≤ highest f) where
-    known : rule ≤ 2
-    known = omega (arith, (highest_carried f h.row).1)
-
-    allowed : Allowed n (get_or generators f 0) rule
-    allowed = record { code = checked; known = known; carried = rw h.length (rule_carried f rule h.row l) }
-
-    -- the entry of the word's remainder
-    module _ {t : List ℕ} (p : Places t) {s : ℕ} (v : Remainder w (get_or generators f 0) s) where
-      here : Place n (get_or generators f 0) (pattern_count n (highest f)) s (get_or t (f * 2048 + s) 0)
-      here = rw h.length (p.at f h.row s (remainder_small h v))
-
-      long : 2 < n
-      long = rw h.length (family_long f h.row)
-
-      top : (highest f ≤ 2) × Carries (Pattern n (highest f)) (get_or generators f 0)
-      top = let k = highest_carried f h.row in (k.1, rw h.length k.2)
-
-      pub entry_none : n * rule < get_or t (f * 2048 + s) 0 → FindsCode n (get_or generators f 0) rule w 8 0 0
-      entry_none b = none_found allowed below v (place_missing long checked.most top.0 top.1 rule l here b)
-
-      pub entry_found : {count : ℕ} → get_or t (f * 2048 + s) 0 ≤ n * rule → count ≡ ones (pattern_at n (get_or t (f * 2048 + s) 0))
-          → FindsCode n (get_or generators f 0) rule w 0 (sum w (pattern_at n (get_or t (f * 2048 + s) 0))) count
-      entry_found b e =
-          let k = place_found long checked.most top.0 top.1 rule l here b in
-          pattern_found allowed below v k.0 k.1 e
-
-      -- it is a place of the row
-      pub entry_within : get_or t (f * 2048 + s) 0 ≤ n * rule → get_or t (f * 2048 + s) 0 ≤ 2 * n
-      entry_within b = omega (arith, mul-le-mul (let k : n ≤ n = omega arith in k) known)
-
 -- the code of a plate
 pub plate_code : (p : Plate) → Code p.n p.g
 plate_code p = rw p.generator (checked p.family)
+
+-- ---- mending on a plate
+
+module _ (p : Plate) {rule w s : ℕ} (below : w < 2 ^ p.n) (l : rule ≤ p.highest) (v : Remainder w p.g s) where
+  allowed : Allowed p.n p.g rule
+  allowed = record { code = plate_code p; known = omega (arith, p.carried, (plate_highest p).1); carried = plate_carries p l }
+
+  pub plate_mends : {e : ℕ} → Has p.n p.g p.highest rule s e → FindsCode p.n p.g rule w 0 (sum w e) (ones e)
+  plate_mends h = pattern_found allowed below v h.1 h.2 refl
+
+  pub plate_unreadable : ((e : ℕ) → Has p.n p.g p.highest rule s e → ⊥) → FindsCode p.n p.g rule w 8 0 0
+  plate_unreadable f = none_found allowed below v (λ e a b. f e (l, a, b))

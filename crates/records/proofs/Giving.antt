@@ -8,7 +8,7 @@ use lib.Dec.{eqb}
 use Rattle.families.specs.Families.{lengths, generators, length_of, generator_of}
 use Rattle.families.proofs.Families.{entry}
 use Rattle.tables.specs.declared.Plate.{Plate}
-use Rattle.records.specs.Records.{Record, Job, E, P, S, D, Q, letter_of, Allowed, Gives}
+use Rattle.records.specs.Records.{Record, Job, E, P, S, D, Q, letter_of, Gives}
 use Rattle.records.specs.Steps.{Answered}
 
 -- the job of a letter
@@ -25,10 +25,6 @@ job_letter Q = refl
 
 letter_job : (a b : Job) → letter_of a ≡ letter_of b → a ≡ b
 letter_job a b e = sym (job_letter a) ∙ ap job_of e ∙ job_letter b
-
--- a record that asks for no job, or is not allowed
-pub gives_none : {x : Record} → ((job : Job) → Allowed x job → ⊥) → Gives x 9 0 0
-gives_none f = record { refused = λ _. (refl, refl, refl); done = λ job a. absurd (f job a) }
 
 -- a letter, a plate and a zero byte: the job decides
 pub gives_job : (x : Record) (job : Job) (p : Plate) {number count value : ℕ} → x.letter ≡ letter_of job → p.f + 1 ≡ x.family → x.spare ≡ 0

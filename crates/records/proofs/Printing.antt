@@ -11,7 +11,7 @@ use lib.ListN.{length, get_or, take, drop, length-append, length-drop, take-appe
 use lib.Seq.{length-take-le, drop-drop}
 use Rattle.poly.proofs.Coefficient.{lt_or_le}
 use Rattle.text.specs.Text.{Puts}
-use Rattle.text.proofs.Puts.{puts_empty, puts_append, puts_length, puts_within}
+use Rattle.text.proofs.Puts.{puts_append, puts_length, puts_within}
 use Rattle.verdict.proofs.Verdict.{where_holds}
 use Rattle.records.specs.Records.{record_of, line_of, short_of, Prints, end, rest, line, Room, Printed}
 use Rattle.records.specs.Steps.{PutsLine, Line}
@@ -26,17 +26,6 @@ pub record Done (records start out : List ℕ) (place i : ℕ) : Type 0 where
   pub within : i ≤ length records
   pub room : place ≤ i * 4
 
-pub done_none : (records start : List ℕ) → Done records start start 0 0
-done_none records start = record {
-  text = [];
-  prints = λ more p. p;
-  puts = puts_empty start 0;
-  long = refl;
-  whole = refl;
-  within = omega arith;
-  room = omega arith;
-}
-
 -- the records one after the other, as they are cut
 pub record_at : (k i : ℕ) (records : List ℕ) → i < k → get_or (first_chunks 16 k records) i [] ≡ take 16 (drop (i * 16) records)
 record_at zero i records l = absurd (not-suc-le-zero l)
@@ -49,9 +38,6 @@ record_at (suc k) (suc i) records l =
 module _ (records start : List ℕ) where
   pub room_of : length records / 16 < length start / 64 → Room records start
   room_of l = omega arith
-
-  pub no_room : length start / 64 ≤ length records / 16 → Room records start → ⊥
-  no_room l r = omega arith
 
 module _ {records start out : List ℕ} {place i : ℕ} (h : Room records start) (d : Done records start out place i) where
   -- the slice stays as long as it was

@@ -1,19 +1,17 @@
 // From the fields of a record to what it gives: the count of mended cells and the value, or a refusal.
-ghost use Rattle.std.specs.Prelude.{◌≡◌, ℕ, ◌+◌, ◌*◌, ◌^◌, ◌≤◌, ◌<◌};
-ghost use Rattle.std.specs.Int.Count.{ones};
-ghost use Rattle.poly.specs.Poly.{times};
+ghost use Rattle.std.specs.Prelude.{◌≡◌, ◌^◌, ◌<◌};
 ghost use Rattle.verdict.specs.Refusal.{number};
-ghost use Rattle.codes.specs.Row.{pattern_at};
 ghost use Rattle.codes.specs.Finding.{FindsCode};
 ghost use Rattle.records.specs.Records.{Gives};
 ghost use Rattle.records.specs.Steps.{Answered, count_of, value_of, fields};
 
 use crate::job::Job;
-use std::marker::Model;
-use tables::{Division, Plate};
+use crate::record::Record;
+use tables::{Division, Patterns, Plate};
 use verdict::Refusal;
 
-// What is read out of a record that is done.
+// What is read out of a record that is done. (That number and count are digits is no invariant of it: the number is the refusal's, and other calls refuse
+// with 10 and 11.)
 #[derive(Clone, Copy)]
 pub(crate) struct Reading {
     pub count: u64,
@@ -27,76 +25,22 @@ fn unmended(value: u64) -> Reading
     Reading { count: 0, value }
 }
 
-// The product of a message and the generator, by the digits of the generator.
-fn product(plate: Plate, d: u64) -> u64
-    requires { d * 2 ^ plate.r < 2 ^ 63 }
-    ensures { result ≡ times d plate.g }
-{
-    let mut t = 0;
-    for i in 0..12u32 {
-        t ^= (d * ((plate.g >> i) % 2)) << i;
-    }
-    t
-}
-
-// The pattern at place k of the row.
-fn pattern(n: usize, k: usize) -> u64
-    requires { (2 ≤ n) × (n ≤ 63) × (k ≤ 2 * n) }
-    ensures { result ≡ pattern_at n k }
-{
-    if k == 0 {
-        return 0;
-    }
-    if k <= n {
-        return 1 << (k - 1);
-    }
-    if k < 2 * n {
-        return (1 << (k - n)) ^ (1 << (k - n - 1));
-    }
-    (1 << (n - 1)) ^ 1
-}
-
-// How many cells it has.
-fn cells(n: usize, k: usize) -> u64
-    requires { (2 ≤ n) × (k ≤ 2 * n) }
-    ensures { (result ≡ ones (pattern_at n k)) × (result ≤ 2) }
-{
-    if k == 0 {
-        return 0;
-    }
-    if k <= n {
-        return 1;
-    }
-    2
-}
-
 // The tables that the jobs are done by, made once for a block of records.
 #[derive(Drop)]
 pub(crate) struct Tables {
     division: Division,
-    places: [u8; 24576],
-}
-
-impl Model for Tables {
-    ghost use Rattle.std.specs.Prelude.{List, ℕ};
-    ghost use Rattle.tables.specs.Tables.{Places};
-
-    ghost Value = { List ℕ };
-
-    ghost view = { λ t. t.places };
-
-    ghost invariant = { λ t. Places t.places };
+    patterns: Patterns,
 }
 
 impl Tables {
     pub(crate) fn new() -> Tables {
-        Tables {
-            division: Division::new(),
-            places: tables::places(),
-        }
+        let division = Division::new();
+        let patterns = Patterns::new(&division);
+        Tables { division, patterns }
     }
 
-    // The code word that differs from w in a pattern of the rule, and the number of cells in that pattern.
+    // The code word that differs from w in a pattern of the rule, and the number of cells in that pattern. (A rule is a number: see
+    // `pattern_count` in codes.)
     fn mend(&self, plate: Plate, rule: u64, w: u64) -> Result<Reading, Refusal>
         requires { w < 2 ^ plate.n }
         ensures mends { FindsCode plate.n plate.g rule w (number result) (value_of result) (count_of result) }
@@ -108,14 +52,13 @@ impl Tables {
         if plate.highest < rule {
             return Err(Refusal::NotCarried);
         }
-        let s = self.division.remainder(plate, w) as usize;
-        let k = usize::from(self.places[plate.f * 2048 + s]);
-        if plate.n * (rule as usize) < k {
+        let s = self.division.remainder(plate, w);
+        let Some(pattern) = self.patterns.find(plate, rule, s) else {
             return Err(Refusal::Unreadable);
-        }
+        };
         Ok(Reading {
-            count: cells(plate.n, k),
-            value: w ^ pattern(plate.n, k),
+            count: u64::from(pattern.count_ones()),
+            value: w ^ pattern,
         })
     }
 
@@ -131,42 +74,35 @@ impl Tables {
                 let x = word << plate.r;
                 Ok(unmended(x ^ self.division.remainder(plate, x)))
             }
-            Job::P => Ok(unmended(product(plate, word))),
+            Job::P => Ok(unmended(poly::times_number(plate.g, word))),
             Job::S => Ok(unmended(self.division.remainder(plate, word))),
             Job::D => {
                 let m = self.mend(plate, rule, word)?;
                 Ok(Reading {
-                    count: m.count,
                     value: m.value >> plate.r,
+                    ..m
                 })
             }
             Job::Q => {
                 let m = self.mend(plate, rule, word)?;
                 Ok(Reading {
-                    count: m.count,
                     value: self.division.divide(plate, m.value) >> plate.r,
+                    ..m
                 })
             }
         }
     }
 
     // What a record gives. Number 9 comes before every other.
-    pub(crate) fn answer(
-        &self,
-        letter: u8,
-        family: u64,
-        rule: u64,
-        spare: u64,
-        word: u64,
-    ) -> Result<Reading, Refusal>
+    pub(crate) fn answer(&self, record: Record) -> Result<Reading, Refusal>
         ensures digits { (number result < 10) × (count_of result < 10) }
-        ensures gives { (station : ℕ) → Gives (fields letter family rule spare station word) (number result) (count_of result) (value_of result) }
+        ensures gives { Gives (fields «record») (number result) (count_of result) (value_of result) }
     {
-        if spare != 0 {
+        if record.spare != 0 {
             return Err(Refusal::Record);
         }
-        let job = Job::of(letter).ok_or(Refusal::Record)?;
-        let plate = Plate::of(family).ok_or(Refusal::Record)?;
-        self.perform(job, plate, rule, word)
+        let job = Job::try_from(record.letter)?;
+        let plate = Plate::of(u64::from(record.family)).ok_or(Refusal::Record)?;
+        self.perform(job, plate, u64::from(record.rule), record.word)
     }
 }

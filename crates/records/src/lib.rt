@@ -3,39 +3,36 @@
 
 mod job;
 mod jobs;
+mod record;
 
-ghost use Rattle.std.specs.Prelude.{◌≡◌, ◌+◌, ◌≤◌, ◌<◌, length};
+ghost use Rattle.std.specs.Prelude.{◌+◌, ◌≤◌, ◌<◌, length};
 ghost use Rattle.verdict.specs.Refusal.{number};
 ghost use Rattle.records.specs.Records.{line_of, short_of, Printed};
 ghost use Rattle.records.specs.Steps.{count_of, value_of, fields, PutsLine, Line};
 
 use jobs::{Reading, Tables};
+use record::Record;
 use verdict::Refusal;
 
 // Writes a line from place `at` on, and hands back the place after it. Number and count have one digit. (`out` and `at` are no struct: text::put_bytes and
-// put_number, whose clauses are fixed, take and hand back the two, and a struct's methods would only repeat these.)
-fn put_fields(
-    out: &mut [u8],
-    at: usize,
-    station: u64,
-    letter: u8,
-    answer: Result<Reading, Refusal>,
-) -> usize
+// put_number, whose clauses are fixed, take and hand back the two, and a struct's methods would only repeat these. A
+// refused record's line has zeros, and so do the three here.)
+fn put_fields(out: &mut [u8], at: usize, record: Record, answer: Result<Reading, Refusal>) -> usize
     requires { (number answer < 10) × (count_of answer < 10) × (at + 64 ≤ length out.old) }
-    ensures { PutsLine (line_of (fields letter 0 0 0 station 0) (number answer) (count_of answer) (value_of answer)) out.old at out.new result }
+    ensures { PutsLine (line_of (fields «record») (number answer) (count_of answer) (value_of answer)) out.old at out.new result }
 {
     let (number, count, value) = match answer {
         Ok(reading) => (0, reading.count, reading.value),
         Err(refusal) => (u64::from(refusal), 0, 0),
     };
-    let a = text::put_number(out, at, station);
+    let a = text::put_number(out, at, u64::from(record.station));
     let middle = [
         b' ',
-        job::shown(letter),
+        job::shown(record.letter),
         b' ',
-        48 + number as u8,
+        b'0' + number as u8,
         b' ',
-        48 + count as u8,
+        b'0' + count as u8,
         b' ',
     ];
     let b = text::put_bytes(out, a, &middle);
@@ -44,37 +41,12 @@ fn put_fields(
 }
 
 // The line of a record.
-fn put_line(tables: &Tables, record: &[u8; 16], out: &mut [u8], at: usize) -> usize
+fn put_line(tables: &Tables, bytes: [u8; 16], out: &mut [u8], at: usize) -> usize
     requires { at + 64 ≤ length out.old }
-    ensures { Line record.now out.old at out.new result }
+    ensures { Line bytes out.old at out.new result }
 {
-    let [
-        letter,
-        family,
-        rule,
-        spare,
-        s0,
-        s1,
-        s2,
-        s3,
-        w0,
-        w1,
-        w2,
-        w3,
-        w4,
-        w5,
-        w6,
-        w7,
-    ] = *record;
-    let station = u32::from_be_bytes([s0, s1, s2, s3]);
-    let answer = tables.answer(
-        letter,
-        u64::from(family),
-        u64::from(rule),
-        u64::from(spare),
-        u64::from_be_bytes([w0, w1, w2, w3, w4, w5, w6, w7]),
-    );
-    put_fields(out, at, u64::from(station), letter, answer)
+    let record = Record::from(bytes);
+    put_fields(out, at, record, tables.answer(record))
 }
 
 // The short line.
@@ -87,7 +59,8 @@ fn put_short(out: &mut [u8], at: usize, count: usize) -> usize
     text::put_bytes(out, b, b"\n")
 }
 
-// The lines of a block of records, from the front of `out` on, and the place after them. Where `out` has no room, nothing is written and 0 handed back.
+/// The lines of a block of records, from the front of `out` on, and the place after them. Where `out` has no room, nothing is written and 0 handed back.
+/// (0 and no Option: with room, only a block of no bytes gives 0.)
 pub fn lines(records: &[u8], out: &mut [u8]) -> usize
     ensures { Printed records.now out.old out.new result }
 {
@@ -98,7 +71,7 @@ pub fn lines(records: &[u8], out: &mut [u8]) -> usize
     let (whole, rest) = records.as_chunks::<16>();
     let mut at = 0;
     for record in whole {
-        at = put_line(&tables, record, out, at);
+        at = put_line(&tables, *record, out, at);
     }
     if rest.is_empty() {
         return at;

@@ -64,6 +64,7 @@ fn one_block(
     }
 }
 
+// A block of zeros: fixed memory, however long the input is. The clause gives the check its length.
 fn zeros<const N: usize>() -> [u8; N]
     ensures { N ≡ length result }
 {

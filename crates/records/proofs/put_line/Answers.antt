@@ -1,20 +1,19 @@
--- The fields of the record, what it gives, and its line.
-use Rattle.std.proofs.Common.{◌≡◌, length, ◌∙◌, rules}
+-- The record, what it gives, and its line.
+use Rattle.std.proofs.Common.{◌≡◌, subst}
 use Rattle.verdict.specs.Refusal.{number}
-use Rattle.records.specs.Steps.{count_of, value_of}
-use Rattle.records.proofs.Bytes.{station_bytes, word_bytes}
+use Rattle.records.specs.Records.{record_of, line_of}
+use Rattle.records.specs.Steps.{count_of, value_of, fields, PutsLine}
 use Rattle.records.proofs.put_line.Goals as goal
 
 pub returns : goal.returns
 returns c =
-    let r = c.args.record.now in
-    let long : length r ≡ 16 = search rules in
-    let station = c.from-4.ensures ∙ c.from_be_bytes-station.ensures ∙ station_bytes r long in
-    let word = c.from_be_bytes.ensures ∙ word_bytes r long in
+    let a = c.args in
+    let x = c.answer.result in
+    let same : fields c.from-record.result ≡ record_of a.bytes = c.from-record.ensures in
     record {
-      number = number c.answer-answer.result;
-      count = count_of c.answer-answer.result;
-      value = value_of c.answer-answer.result;
-      gives = rw (c.from.ensures, c.from-2.ensures, c.from-3.ensures, word, station) at (c.answer-answer.ensures.gives c.from-4.result);
-      line = rw station at c.put_fields.ensures;
+      number = number x;
+      count = count_of x;
+      value = value_of x;
+      gives = rw same at c.answer.ensures.gives;
+      line = subst (λ y. PutsLine (line_of y (number x) (count_of x) (value_of x)) a.out.now a.at c.put_fields.new.out c.put_fields.result) same c.put_fields.ensures;
     }

@@ -6,8 +6,9 @@ use Rattle.records.proofs.Giving.{gives_job}
 use Rattle.records.proofs.jobs.Tables.answer.Goals as goal
 
 pub returns-clause-gives : goal.returns-clause-gives
-returns-clause-gives c station =
-    let a = c.args in
-    let letter : a.letter ≡ letter_of c.in_ok-job.job = search rules in
-    let family : c.in_ok-plate.plate.f + 1 ≡ a.family = search rules in
-    gives_job (fields a.letter a.family a.rule a.spare station a.word) c.in_ok-job.job c.in_ok-plate.plate letter family c.if-spare-ne0.false c.perform.ensures
+returns-clause-gives c =
+    let x = c.args.«record» in
+    let letter : x.letter ≡ letter_of c.in_ok-job.job = search rules in
+    let family : c.in_ok-plate.plate.f + 1 ≡ x.family = search rules in
+    gives_job (fields x) c.in_ok-job.job c.in_ok-plate.plate letter family c.if-record-ne0.false
+    (rw c.from-2.ensures at c.perform.ensures)

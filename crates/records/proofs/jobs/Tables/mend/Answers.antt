@@ -1,7 +1,8 @@
--- The checks of the rule, and then the entry of the word's remainder.
-use Rattle.std.proofs.Common.{◌≤◌}
-use Rattle.tables.specs.Tables.{highest}
-use Rattle.records.proofs.Answering.{mending_unknown, mending_uncarried, plate_code, uncarried, entry_none, entry_found}
+-- The checks of the rule, and then the pattern with the word's remainder.
+use Rattle.std.proofs.Common.{arith}
+use Rattle.tables.proofs.Entering.{family_cells}
+use Rattle.tables.proofs.Row.{pattern_cells}
+use Rattle.records.proofs.Answering.{mending_unknown, mending_uncarried, plate_code, uncarried, plate_mends, plate_unreadable}
 use Rattle.records.proofs.jobs.Tables.mend.Goals as goal
 
 pub returns-then-rule-gt2-clause-mends : goal.returns-then-rule-gt2-clause-mends
@@ -13,18 +14,13 @@ returns-then-plate-rule-clause-mends c =
     mending_uncarried (plate_code p) c.args.rule c.args.w c.if-rule-gt2.false
     (rw p.generator (uncarried p.family c.if-rule-gt2.false (rw p.carried at c.if-plate-rule.true)))
 
-pub returns-then-plate-rule-2-clause-mends : goal.returns-then-plate-rule-2-clause-mends
-returns-then-plate-rule-2-clause-mends c =
-    let p = c.args.plate in
-    let low : c.args.rule ≤ highest p.f = rw p.carried at c.if-plate-rule.false in
-    rw p.generator
-    (entry_none p.family c.args.rule c.args.w c.requires low c.self.invariant (rw p.generator at c.remainder-s.ensures) (rw c.from-k.ensures at c.if-plate-rule-2.true))
+pub returns-in_default-clause-mends : goal.returns-in_default-clause-mends
+returns-in_default-clause-mends c =
+    plate_unreadable c.args.plate c.requires c.if-plate-rule.false c.remainder-s.ensures c.in_default.ensures
 
 pub returns-clause-mends : goal.returns-clause-mends
 returns-clause-mends c =
-    let p = c.args.plate in
-    let low : c.args.rule ≤ highest p.f = rw p.carried at c.if-plate-rule.false in
-    let same = c.from-k.ensures in
-    rw (p.generator, c.pattern.ensures, same)
-    (entry_found p.family c.args.rule c.args.w c.requires low c.self.invariant (rw p.generator at c.remainder-s.ensures) (rw same at c.if-plate-rule-2.false)
-    (rw same at c.cells.ensures.0))
+    rw c.from.ensures (plate_mends c.args.plate c.requires c.if-plate-rule.false c.remainder-s.ensures c.in-Some.ensures)
+
+pub returns-clause-digits : goal.returns-clause-digits
+returns-clause-digits c = (omega arith, omega (arith, c.from.ensures, pattern_cells (family_cells c.args.plate.family).0 c.in-Some.ensures.1))

@@ -1,20 +1,15 @@
 -- A job is done on a word that it allows, and number 9 handed back else.
-use Rattle.std.proofs.Common.{◌≡◌, ◌*◌, ◌%◌, ◌^◌, Err, arith, rules}
+use Rattle.std.proofs.Common.{◌≡◌, ◌∙◌, ◌*◌, ◌%◌, ◌^◌, Err, arith, rules}
 use Rattle.std.proofs.Math.Nat.{mod-eq_of_lt}
 use Rattle.records.specs.Records.{E, P, RuleFits, WordFits}
 use Rattle.tables.proofs.Plates.{plate_few, plate_degree}
+use Rattle.poly.proofs.Times.{times_comm}
 use Rattle.codes.proofs.Calls.{message_below}
-use Rattle.records.proofs.Answering.{message_room, answers_systematic, answers_product, answers_remainder, answers_first, answers_quotient, refused_first, refused_quotient, plate_code}
+use Rattle.records.proofs.Answering.{message_room, message_product, answers_systematic, answers_product, answers_remainder, answers_first, answers_quotient, refused_first, refused_quotient, plate_code}
 use Rattle.records.proofs.jobs.Tables.perform.Goals as goal
 
 pub overflow_shl-x : goal.overflow_shl-x
 overflow_shl-x c = omega (arith, plate_few c.args.plate)
-
-pub product-requires : goal.product-requires
-product-requires c =
-    let p = c.args.plate in
-    let a : RuleFits P c.args.rule × WordFits P p.n p.g c.args.word = rw c.in-P.is at (c.allows.ensures.yes c.if-not-allows.false) in
-    message_room (plate_code p) (plate_degree p) c.args.word (message_below (plate_code p) (plate_degree p) a.1)
 
 pub returns-in-E : goal.returns-in-E
 returns-in-E c =
@@ -29,9 +24,11 @@ returns-in-E c =
 pub returns-in-P : goal.returns-in-P
 returns-in-P c =
     let p = c.args.plate in
-    let a = c.allows.ensures.yes c.if-not-allows.false in
+    let w = c.args.word in
+    let a : RuleFits P c.args.rule × WordFits P p.n p.g w = rw c.in-P.is at (c.allows.ensures.yes c.if-not-allows.false) in
+    let small = message_product (plate_code p) (plate_degree p) w (message_below (plate_code p) (plate_degree p) a.1) in
     rw (c.in-P.is, c.unmended-in-P.ensures.0, c.unmended-in-P.ensures.1)
-    (answers_product (plate_code p) (plate_degree p) c.args.rule c.args.word (rw c.in-P.is at a) c.product.ensures)
+    (answers_product (plate_code p) (plate_degree p) c.args.rule w a (c.times_number.ensures.holds small ∙ times_comm p.g w))
 
 pub returns-in-S : goal.returns-in-S
 returns-in-S c =
