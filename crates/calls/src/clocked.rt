@@ -4,7 +4,7 @@ use super::results::{Cells, Standing, both};
 use reader::Reader;
 use std::io::Write;
 
-// What is printed beside a refused start.
+// What is printed beside a refused start. (No Default: an array of 63 has none.)
 const NONE: Reader = Reader {
     n: 0,
     g: 0,

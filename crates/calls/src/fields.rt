@@ -33,7 +33,7 @@ pub(crate) struct Fields<'a> {
     alloc: Global,
 }
 
-// The value of a hexadecimal digit in lower case.
+// The value of a hexadecimal digit in lower case. (No `to_digit`: it takes upper case too.)
 fn digit(b: u8) -> Result<u8, Failure> {
     match b {
         b'0'..=b'9' => Ok(b - b'0'),
@@ -85,7 +85,7 @@ impl<'a> Fields<'a> {
         Ok((n, g, self.number()?))
     }
 
-    // Cells: `0`, `1` or a byte each.
+    // Cells: `0`, `1` or a byte each. (A cell is one byte or three, so no `for` goes over the bytes.)
     pub(crate) fn cells(&mut self) -> Result<Vec<u8>, Failure> {
         let mut cells = Vec::new(self.alloc);
         let text = self.text()?;

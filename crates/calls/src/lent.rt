@@ -1,7 +1,6 @@
 // The calls on lent cells.
 use super::fields::{Failure, Fields};
-use super::results::{Cells, both, number};
-use readings::Taken;
+use super::results::{Cells, both};
 use std::io::Write;
 use verdict::Refusal;
 
@@ -54,7 +53,7 @@ pub(crate) fn encode<W: Write, F: FnOnce(usize, u64, &[u8], &mut [u8]) -> Result
     let message = fields.cells()?;
     let mut word = fields.cells()?;
     fields.end()?;
-    let number = number(call(n, g, &message, &mut word));
+    let number = verdict::number(&call(n, g, &message, &mut word));
     write!(out, "{number} {}", Cells(&word))?;
     Ok(())
 }
@@ -81,12 +80,8 @@ pub(crate) fn better<W: Write>(mut fields: Fields, out: &mut W) -> Result<(), Fa
     let first = fields.cells()?;
     let second = fields.cells()?;
     fields.end()?;
-    let number = number(readings::better_number(n, g, rule, &first, &second));
-    let word = match readings::better_word(n, g, rule, &first, &second) {
-        None => 0,
-        Some(Taken::First) => 1,
-        Some(Taken::Second) => 2,
-    };
+    let number = verdict::number(&readings::better_number(n, g, rule, &first, &second));
+    let word = readings::better_word(n, g, rule, &first, &second).map_or(0, u64::from);
     let taken = readings::better(n, g, rule, &first, &second);
     write!(out, "{number} {word} {}", Cells(taken))?;
     Ok(())

@@ -12,12 +12,15 @@ mod results;
 use fields::{Failure, Fields};
 use std::alloc::Global;
 use std::io;
-use std::io::{BufRead, BufReader, BufWriter, Read, Write};
+use std::io::{BufRead, BufReader, Read, Write};
 
 // The most bytes of a line, with its line feed.
 const LONGEST: usize = 65536;
 
-// The call that a line's letter names.
+// The bytes of output that are written at once.
+const BLOCK: usize = 32768;
+
+// The call that a line's letter names. (A match and no table: the calls differ in type.)
 fn call<W: Write>(alloc: Global, line: &[u8], out: &mut W) -> Result<(), Failure> {
     let mut fields = Fields::new(alloc, line)?;
     match fields.text()? {
@@ -56,13 +59,14 @@ fn answer<W: Write>(alloc: Global, line: &[u8], out: &mut W) -> io::Result<()> {
     writeln!(out)
 }
 
-// Answers the input to its end, or to a line that is too long. A read that fails ends it too. The turns are counted since a proved loop has to end; no run
-// uses them up.
-fn run<R: BufRead, W: Write>(alloc: Global, source: &mut R, out: &mut W) -> io::Result<()> {
+// Answers the input to its end, or to a line that is too long. A read that fails ends it too. What is answered is held until there is a block of it, and
+// nothing is written after a write that fails. The turns are counted since a proved loop has to end; no run uses them up.
+fn run<R: BufRead>(alloc: Global, source: &mut R, rt: &impl Print) -> io::Result<()> {
     let mut line = Vec::with_capacity(alloc, LONGEST)?;
+    let mut out = Vec::new(alloc);
     for _ in 0..u64::MAX {
         line.clear();
-        let _ = source
+        let read = source
             .by_ref()
             .take(LONGEST as u64)
             .read_until(b'\n', &mut line);
@@ -72,16 +76,22 @@ fn run<R: BufRead, W: Write>(alloc: Global, source: &mut R, out: &mut W) -> io::
         if line.last() == Some(&b'\n') {
             line.pop();
         } else if line.len() == LONGEST {
-            return writeln!(out, "a line is too long");
+            writeln!(out, "a line is too long")?;
+            break;
         }
-        answer(alloc, &line, out)?;
+        answer(alloc, &line, &mut out)?;
+        if BLOCK <= out.len() {
+            rt.write_all(&out)?;
+            out.clear();
+        }
+        if read.is_err() {
+            break;
+        }
     }
-    Ok(())
+    rt.write_all(&out)
 }
 
 fn main(rt: HostRuntime) -> io::Result<()> {
     let mut source = BufReader::new(rt.alloc(), rt.reader())?;
-    let mut out = BufWriter::new(rt.alloc(), io::writer(&rt))?;
-    run(rt.alloc(), &mut source, &mut out)?;
-    out.flush()
+    run(rt.alloc(), &mut source, &rt)
 }

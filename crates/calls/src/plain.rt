@@ -1,6 +1,6 @@
 // The calls on numbers.
 use super::fields::{Failure, Fields};
-use super::results::{both, number};
+use super::results::both;
 use numbers::Decoding;
 use std::io::Write;
 use verdict::Refusal;
@@ -9,7 +9,7 @@ use verdict::Refusal;
 pub(crate) fn check_code<W: Write>(mut fields: Fields, out: &mut W) -> Result<(), Failure> {
     let (n, g) = fields.code()?;
     fields.end()?;
-    write!(out, "{}", number(codes::check_code(n, g)))?;
+    write!(out, "{}", verdict::number(&codes::check_code(n, g)))?;
     Ok(())
 }
 
@@ -17,7 +17,7 @@ pub(crate) fn check_code<W: Write>(mut fields: Fields, out: &mut W) -> Result<()
 pub(crate) fn check_rule<W: Write>(mut fields: Fields, out: &mut W) -> Result<(), Failure> {
     let (n, g, rule) = fields.ruled()?;
     fields.end()?;
-    write!(out, "{}", number(codes::check_rule(n, g, rule)))?;
+    write!(out, "{}", verdict::number(&codes::check_rule(n, g, rule)))?;
     Ok(())
 }
 

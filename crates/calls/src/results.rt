@@ -5,18 +5,7 @@ use verdict::Refusal;
 
 // The number handed back, and the value, 0 beside a refusal.
 pub(crate) fn both(outcome: Result<u64, Refusal>) -> (u64, u64) {
-    match outcome {
-        Ok(value) => (0, value),
-        Err(refusal) => (u64::from(refusal), 0),
-    }
-}
-
-// The number handed back by a call that gives nothing beside it.
-pub(crate) fn number(outcome: Result<(), Refusal>) -> u64 {
-    match outcome {
-        Ok(()) => 0,
-        Err(refusal) => u64::from(refusal),
-    }
+    (verdict::number(&outcome), outcome.unwrap_or(0))
 }
 
 // Cells as one text, `-` for none.
