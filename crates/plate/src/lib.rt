@@ -1,5 +1,5 @@
 // The calls of the library under names that C and Rust can link. Each does what the call of its name does, with the same promise; numbers pass as
-// themselves, lent cells as a pointer and then a length. C takes no Result and no enum with values, so a refusal is its number here, and zeros stand beside it.
+// themselves, lent cells as a pointer and then a length. C takes no Result and no enum with values, so a refusal is its number here, and zeros stand beside it, or the reader that was given.
 #![tactic(auto)]
 
 ghost use Rattle.std.specs.Prelude.{◌≡◌};
@@ -35,7 +35,7 @@ pub struct Decoding {
     pub mended: u64,
 }
 
-/// A number and the reader: `plate_started`.
+/// A number and the reader: `plate_started`. (A reader of zeros is written out: an array of 63 has no Default.)
 #[repr(C)]
 #[derive(Clone, Copy)]
 pub struct Started {
@@ -52,26 +52,13 @@ pub struct Clocked {
     pub reader: reader::Reader,
 }
 
-// The number of a call without a value.
-fn number_of(x: Result<(), Refusal>) -> u64
-    ensures { result ≡ number x }
-{
-    match x {
-        Ok(()) => 0,
-        Err(refusal) => refusal.into(),
-    }
-}
-
 impl From<Result<u64, Refusal>> for Value {
     ghost from_gives = { λ x v. (v.number ≡ number x) × (v.value ≡ value x) };
 
     fn from(x: Result<u64, Refusal>) -> Value {
-        match x {
-            Ok(value) => Value { number: 0, value },
-            Err(refusal) => Value {
-                number: refusal.into(),
-                value: 0,
-            },
+        Value {
+            number: verdict::number(&x),
+            value: x.unwrap_or(0),
         }
     }
 }
@@ -136,23 +123,23 @@ impl From<reader::Clocked> for Clocked {
     }
 }
 
-// The checks 1 to 3.
+/// The checks 1 to 3.
 #[unsafe(no_mangle)]
 pub extern "C" fn plate_check_code(n: usize, g: u64) -> u64
     ensures { Verdict (code_checks n g) result }
 {
-    number_of(codes::check_code(n, g))
+    verdict::number(&codes::check_code(n, g))
 }
 
-// The checks 1 to 5.
+/// The checks 1 to 5.
 #[unsafe(no_mangle)]
 pub extern "C" fn plate_check_rule(n: usize, g: u64, rule: u64) -> u64
     ensures { Verdict (rule_checks n g rule) result }
 {
-    number_of(codes::check_rule(n, g, rule))
+    verdict::number(&codes::check_rule(n, g, rule))
 }
 
-// Quotient and remainder of lent cells.
+/// Quotient and remainder of lent cells.
 #[unsafe(no_mangle)]
 pub extern "C" fn plate_divide(dividend: &[u8], divisor: u64, quotient: &mut [u8]) -> Value
     ensures { DividesCells dividend.now divisor quotient.old quotient.new result.number result.value }
@@ -160,7 +147,7 @@ pub extern "C" fn plate_divide(dividend: &[u8], divisor: u64, quotient: &mut [u8
     division::divide(dividend, divisor, quotient).into()
 }
 
-// The remainder, by the register with input at the low side.
+/// The remainder, by the register with input at the low side.
 #[unsafe(no_mangle)]
 pub extern "C" fn plate_remainder_low(dividend: &[u8], divisor: u64) -> Value
     ensures { LeavesLow dividend.now divisor result.number result.value }
@@ -168,7 +155,7 @@ pub extern "C" fn plate_remainder_low(dividend: &[u8], divisor: u64) -> Value
     division::remainder_low(dividend, divisor).into()
 }
 
-// The remainder of x^r times the dividend, by the register with input at the high side.
+/// The remainder of x^r times the dividend, by the register with input at the high side.
 #[unsafe(no_mangle)]
 pub extern "C" fn plate_remainder_high(dividend: &[u8], divisor: u64) -> Value
     ensures { LeavesHigh dividend.now divisor result.number result.value }
@@ -176,23 +163,23 @@ pub extern "C" fn plate_remainder_high(dividend: &[u8], divisor: u64) -> Value
     division::remainder_high(dividend, divisor).into()
 }
 
-// The systematic word of a message, on lent cells.
+/// The systematic word of a message, on lent cells.
 #[unsafe(no_mangle)]
 pub extern "C" fn plate_encode_systematic(n: usize, g: u64, message: &[u8], word: &mut [u8]) -> u64
     ensures { EncodesCells Systematic n g message.now word.old word.new result }
 {
-    number_of(words::encode_systematic(n, g, message, word))
+    verdict::number(&words::encode_systematic(n, g, message, word))
 }
 
-// The product word of a message, on lent cells.
+/// The product word of a message, on lent cells.
 #[unsafe(no_mangle)]
 pub extern "C" fn plate_encode_product(n: usize, g: u64, message: &[u8], word: &mut [u8]) -> u64
     ensures { EncodesCells Product n g message.now word.old word.new result }
 {
-    number_of(words::encode_product(n, g, message, word))
+    verdict::number(&words::encode_product(n, g, message, word))
 }
 
-// The remainder of a word, on lent cells.
+/// The remainder of a word, on lent cells.
 #[unsafe(no_mangle)]
 pub extern "C" fn plate_remainder(n: usize, g: u64, word: &[u8]) -> Value
     ensures { LeavesCells n g word.now result.number result.value }
@@ -200,7 +187,7 @@ pub extern "C" fn plate_remainder(n: usize, g: u64, word: &[u8]) -> Value
     words::remainder(n, g, word).into()
 }
 
-// The message of a word by the systematic rule, on lent cells.
+/// The message of a word by the systematic rule, on lent cells.
 #[unsafe(no_mangle)]
 pub extern "C" fn plate_decode_systematic(
     n: usize,
@@ -214,7 +201,7 @@ pub extern "C" fn plate_decode_systematic(
     words::decode_systematic(n, g, rule, word, message).into()
 }
 
-// The message of a word by the product rule, on lent cells.
+/// The message of a word by the product rule, on lent cells.
 #[unsafe(no_mangle)]
 pub extern "C" fn plate_decode_product(
     n: usize,
@@ -228,7 +215,7 @@ pub extern "C" fn plate_decode_product(
     words::decode_product(n, g, rule, word, message).into()
 }
 
-// The systematic word of a message, on numbers.
+/// The systematic word of a message, on numbers.
 #[unsafe(no_mangle)]
 pub extern "C" fn plate_encode_systematic_number(n: usize, g: u64, message: u64) -> Value
     ensures { Encodes Systematic n g message result.number result.value }
@@ -236,7 +223,7 @@ pub extern "C" fn plate_encode_systematic_number(n: usize, g: u64, message: u64)
     numbers::encode_systematic(n, g, message).into()
 }
 
-// The product word of a message, on numbers.
+/// The product word of a message, on numbers.
 #[unsafe(no_mangle)]
 pub extern "C" fn plate_encode_product_number(n: usize, g: u64, message: u64) -> Value
     ensures { Encodes Product n g message result.number result.value }
@@ -244,7 +231,7 @@ pub extern "C" fn plate_encode_product_number(n: usize, g: u64, message: u64) ->
     numbers::encode_product(n, g, message).into()
 }
 
-// The remainder of a word, on numbers.
+/// The remainder of a word, on numbers.
 #[unsafe(no_mangle)]
 pub extern "C" fn plate_remainder_number(n: usize, g: u64, word: u64) -> Value
     ensures { Leaves n g word result.number result.value }
@@ -252,7 +239,7 @@ pub extern "C" fn plate_remainder_number(n: usize, g: u64, word: u64) -> Value
     numbers::remainder(n, g, word).into()
 }
 
-// The message of a word by the systematic rule, on numbers.
+/// The message of a word by the systematic rule, on numbers.
 #[unsafe(no_mangle)]
 pub extern "C" fn plate_decode_systematic_number(n: usize, g: u64, rule: u64, word: u64) -> Decoding
     ensures { Decodes First n g rule word result.number result.message result.mended }
@@ -260,7 +247,7 @@ pub extern "C" fn plate_decode_systematic_number(n: usize, g: u64, rule: u64, wo
     numbers::decode_systematic(n, g, rule, word).into()
 }
 
-// The message of a word by the product rule, on numbers.
+/// The message of a word by the product rule, on numbers.
 #[unsafe(no_mangle)]
 pub extern "C" fn plate_decode_product_number(n: usize, g: u64, rule: u64, word: u64) -> Decoding
     ensures { Decodes Product n g rule word result.number result.message result.mended }
@@ -268,7 +255,7 @@ pub extern "C" fn plate_decode_product_number(n: usize, g: u64, rule: u64, word:
     numbers::decode_product(n, g, rule, word).into()
 }
 
-// A reader before its first clock.
+/// A reader before its first clock.
 #[unsafe(no_mangle)]
 pub extern "C" fn plate_start(n: usize, g: u64, rule: u64) -> Started
     ensures { Starts n g rule (record { number = result.number; reader = result.reader }) }
@@ -276,7 +263,7 @@ pub extern "C" fn plate_start(n: usize, g: u64, rule: u64) -> Started
     reader::Reader::start(n, g, rule).into()
 }
 
-// One clock: a cell goes in, a cell comes out, the next reader comes back.
+/// One clock: a cell goes in, a cell comes out, the next reader comes back.
 #[unsafe(no_mangle)]
 pub extern "C" fn plate_clock(held: reader::Reader, cell: u8) -> Clocked
     ensures { Clocks held cell (record { number = result.number; cell = result.cell; reader = result.reader }) }
@@ -284,7 +271,7 @@ pub extern "C" fn plate_clock(held: reader::Reader, cell: u8) -> Clocked
     held.clock(cell).into()
 }
 
-// The answer after 2n clocks.
+/// The answer after 2n clocks.
 #[unsafe(no_mangle)]
 pub extern "C" fn plate_answer(held: reader::Reader, message: &mut [u8]) -> Value
     ensures { Answers held message.old message.new result.number result.value }
@@ -292,7 +279,7 @@ pub extern "C" fn plate_answer(held: reader::Reader, message: &mut [u8]) -> Valu
     held.answer(message).into()
 }
 
-// Start, 2n clocks and the answer in one call.
+/// Start, 2n clocks and the answer in one call.
 #[unsafe(no_mangle)]
 pub extern "C" fn plate_read(n: usize, g: u64, rule: u64, word: &[u8], message: &mut [u8]) -> Value
     ensures { DecodesCells First n g rule word.now message.old message.new result.number result.value }
@@ -300,7 +287,7 @@ pub extern "C" fn plate_read(n: usize, g: u64, rule: u64, word: &[u8], message: 
     reader::read(n, g, rule, word, message).into()
 }
 
-// The better of two readings: 1 for the first word, 2 for the second, 0 for none.
+/// The better of two readings: 1 for the first word, 2 for the second, 0 for none.
 #[unsafe(no_mangle)]
 pub extern "C" fn plate_better_word(n: usize, g: u64, rule: u64, first: &[u8], second: &[u8]) -> u64
     ensures { Picks n g rule first.now second.now 1 2 (λ h. h ≡ 0) result }
@@ -311,7 +298,7 @@ pub extern "C" fn plate_better_word(n: usize, g: u64, rule: u64, first: &[u8], s
     }
 }
 
-// The number that goes with it.
+/// The number that goes with it.
 #[unsafe(no_mangle)]
 pub extern "C" fn plate_better_number(
     n: usize,
@@ -322,10 +309,10 @@ pub extern "C" fn plate_better_number(
 ) -> u64
     ensures { Numbered n g rule first.now second.now result }
 {
-    number_of(readings::better_number(n, g, rule, first, second))
+    verdict::number(&readings::better_number(n, g, rule, first, second))
 }
 
-// The number of cells of a family, numbered from 1; 0 where there is none.
+/// The number of cells of a family, numbered from 1; 0 where there is none.
 #[unsafe(no_mangle)]
 pub extern "C" fn plate_family_length(family: u64) -> usize
     ensures { result ≡ length_of family }
@@ -333,7 +320,7 @@ pub extern "C" fn plate_family_length(family: u64) -> usize
     families::family_of(family).n
 }
 
-// The generator of a family, numbered from 1; 0 where there is none.
+/// The generator of a family, numbered from 1; 0 where there is none.
 #[unsafe(no_mangle)]
 pub extern "C" fn plate_family_generator(family: u64) -> u64
     ensures { result ≡ generator_of family }
@@ -341,7 +328,7 @@ pub extern "C" fn plate_family_generator(family: u64) -> u64
     families::family_of(family).g
 }
 
-// Whether a family carries rule 2; false where there is no such family.
+/// Whether a family carries rule 2; false where there is no such family.
 #[unsafe(no_mangle)]
 pub extern "C" fn plate_family_pairs(family: u64) -> bool
     ensures { result ≡ pairs_of family }
