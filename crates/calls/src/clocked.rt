@@ -1,8 +1,8 @@
 // The calls of the clocked reader.
-use super::fields::{Failure, Fields};
-use super::results::{Cells, Standing, both};
+use super::fields::{Fields, Rooms, Unclear};
+use super::output::{Output, both};
 use reader::Reader;
-use std::io::Write;
+use std::fmt::Write;
 
 // What is printed beside a refused start. (No Default: an array of 63 has none.)
 const NONE: Reader = Reader {
@@ -16,33 +16,46 @@ const NONE: Reader = Reader {
 };
 
 // N: n g rule.
-pub(crate) fn start<W: Write>(mut fields: Fields, out: &mut W) -> Result<(), Failure> {
+pub(crate) fn start(mut fields: Fields, out: &mut Output) -> Result<(), Unclear> {
     let (n, g, rule) = fields.ruled()?;
     fields.end()?;
     match Reader::start(n, g, rule) {
-        Ok(reader) => write!(out, "0 {}", Standing(reader))?,
-        Err(refusal) => write!(out, "{} {}", u64::from(refusal), Standing(NONE))?,
+        Ok(reader) => {
+            let _ = out.write_str("0 ");
+            out.reader(&reader);
+        }
+        Err(refusal) => {
+            let _ = write!(out, "{} ", u64::from(refusal));
+            out.reader(&NONE);
+        }
     }
     Ok(())
 }
 
 // C: a reader, and a cell in decimal.
-pub(crate) fn clock<W: Write>(mut fields: Fields, out: &mut W) -> Result<(), Failure> {
+pub(crate) fn clock(mut fields: Fields, out: &mut Output) -> Result<(), Unclear> {
     let reader = fields.reader()?;
-    let cell = u8::try_from(fields.number()?).map_err(|_| Failure::Unclear)?;
+    let cell = u8::try_from(fields.number()?).map_err(|_| Unclear)?;
     fields.end()?;
     let x = reader.clock(cell);
     let (number, given) = both(x.given.map(u64::from));
-    write!(out, "{number} {given} {}", Standing(x.reader))?;
+    let _ = write!(out, "{number} {given} ");
+    out.reader(&x.reader);
     Ok(())
 }
 
 // A: a reader and a message.
-pub(crate) fn answer<W: Write>(mut fields: Fields, out: &mut W) -> Result<(), Failure> {
+pub(crate) fn answer(
+    mut fields: Fields,
+    rooms: &mut Rooms,
+    out: &mut Output,
+) -> Result<(), Unclear> {
     let reader = fields.reader()?;
-    let mut message = fields.cells()?;
+    let lent = fields.cells(&mut rooms.first)?;
     fields.end()?;
-    let (number, mended) = both(reader.answer(&mut message));
-    write!(out, "{number} {mended} {}", Cells(&message))?;
+    let message = &mut rooms.first[..lent];
+    let (number, mended) = both(reader.answer(message));
+    let _ = write!(out, "{number} {mended} ");
+    out.cells(message);
     Ok(())
 }
