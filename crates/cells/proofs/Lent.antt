@@ -41,12 +41,16 @@ first_bad_le {i = i} {j = j} h k = go (lt_or_le j i)
 
 -- ---- a number read from the first cell on
 
--- with one of up to 63 cells more it has no more than 63 digits
-pub read_lt : {w : List ℕ} {i k p : ℕ} → FirstBad w k → length w ≤ k → length w ≤ 63 → i < length w → p ≡ poly (take i w)
-    → p * 2 + get_or w i 0 < 2 ^ 63
-read_lt {w} {i} h good most l e =
+-- up to 63 cells make no more than 63 digits
+pub read_lt : (w : List ℕ) (i : ℕ) → Cells w → length w ≤ 63 → i < length w → poly (take i w) * 2 + get_or w i 0 < 2 ^ 63
+read_lt w i h most l =
     let long : length (take (suc i) w) ≤ 63 = rw (length-take-le (suc i) w l) (omega arith) in
-    rw (e, ← (poly-take-suc w i l)) (lt_of_lt_of_le (poly_lt (take (suc i) w) (cells-take (suc i) w (first_bad_cells h good))) (pow_mono long))
+    rw (← (poly-take-suc w i l)) (lt_of_lt_of_le (poly_lt (take (suc i) w) (cells-take (suc i) w h)) (pow_mono long))
+
+-- so with one of them more the number has no more, where none of them is bad
+pub read_next : {w : List ℕ} {i k p : ℕ} → FirstBad w k → length w ≤ k → length w ≤ 63 → i < length w → p ≡ poly (take i w)
+    → p * 2 + get_or w i 0 < 2 ^ 63
+read_next {w} {i} h good most l e = rw e (read_lt w i (first_bad_cells h good) most l)
 
 -- ---- a number written from the end on
 

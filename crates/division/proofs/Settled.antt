@@ -28,7 +28,7 @@ module _ (w : List ℕ) (g : ℕ) where
       → (m ≡ n) × (s ≡ t) × (p ≡ p')
   divide_settled q a b = (
     numbers_same a b,
-    settled a b (λ c z e x y. remainder_unique (quotient_remainder x) (quotient_remainder y)) (λ e x y. x.1 ∙ sym y.1),
+    settled a b (λ c z e x y. remainder_unique (quotient_remainder x) (quotient_remainder y)) (λ e x y. cc (x.1, y.1)),
     settled a b (λ c z e x y. quotient_same x y) (λ e x y. x.0 ∙ sym y.0),
   )
 

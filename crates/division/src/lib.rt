@@ -4,7 +4,7 @@
 ghost use Rattle.std.specs.Prelude.{◌≡◌, ℕ, ◌+◌, ◌*◌, ◌^◌, length, IfOk};
 ghost use Rattle.poly.specs.Poly.{Remainder};
 ghost use Rattle.poly.specs.Cells.{poly};
-ghost use Rattle.poly.specs.Shifts.{Ready};
+ghost use Rattle.poly.specs.Shifts.{Ready, low, high};
 ghost use Rattle.verdict.specs.Verdict.{Verdict};
 ghost use Rattle.verdict.specs.Refusal.{number, value};
 ghost use Rattle.division.specs.Division.{Quotient, DividesCells, LeavesLow, LeavesHigh};
@@ -35,15 +35,21 @@ fn stages(dividend: &[u8], divisor: u64, lent: usize) -> Result<usize, Refusal>
 trait Side {
     ghost factor: { ℕ → ℕ };
 
+    // `shifted r g s c`: the register s by g of degree r, shifted once, with the cell c.
+    ghost shifted: { ℕ → ℕ → ℕ → ℕ → ℕ };
+
     fn shift(r: usize, g: u64, s: u64, c: u64) -> u64
         requires { Ready r g s c }
-        ensures { (p : ℕ) → Remainder (p * factor r) g s → Remainder ((p * 2 + c) * factor r) g result };
+        ensures made { result ≡ shifted r g s c }
+        ensures keeps { (p : ℕ) → Remainder (p * factor r) g s → Remainder ((p * 2 + c) * factor r) g result };
 }
 
 struct Low;
 
 impl Side for Low {
     ghost factor = { λ r. 1 };
+
+    ghost shifted = { low };
 
     fn shift(r: usize, g: u64, s: u64, c: u64) -> u64 {
         poly::low_shift(r, g, s, c)
@@ -54,6 +60,8 @@ struct High;
 
 impl Side for High {
     ghost factor = { λ r. 2 ^ r };
+
+    ghost shifted = { high };
 
     // The feedback is the top stage plus the input.
     fn shift(r: usize, g: u64, s: u64, c: u64) -> u64 {

@@ -1,7 +1,7 @@
 // The clocked reader of a cyclic code (Meggitt).
 #![tactic(auto)]
 
-ghost use Rattle.std.specs.Prelude.{◌≡◌, ◌+◌, ◌-◌, ◌*◌, ◌%◌, ◌≤◌, ◌<◌, length, IfSome, IfNone};
+ghost use Rattle.std.specs.Prelude.{◌≡◌, ◌+◌, ◌-◌, ◌*◌, ◌%◌, ◌≤◌, ◌<◌, length, take, IfSome, IfNone};
 ghost use Rattle.poly.specs.Poly.{sum};
 ghost use Rattle.poly.specs.Cells.{Cells};
 ghost use Rattle.poly.specs.Register.{held, low_shift, added};
@@ -205,6 +205,16 @@ impl Formed {
     }
 }
 
+// The first of the stored cells, as many as are lent. (By places: see `copy_front` in words.)
+fn copy_first(cells: [u8; 63], message: &mut [u8])
+    requires { length message.old ≤ 63 }
+    ensures { message.new ≡ take (length message.old) cells }
+{
+    for i in 0..message.len() {
+        message[i] = cells[i];
+    }
+}
+
 impl Reader {
     // A clock that is refused: the reader as it was given.
     fn refused(self, why: Refusal) -> Clocked
@@ -268,7 +278,7 @@ impl Reader {
         if held_in(self.stages) != 0 {
             return Err(Refusal::Unreadable);
         }
-        message.copy_from_slice(&self.cells[..message.len()]);
+        copy_first(self.cells, message);
         Ok(self.mended)
     }
 }

@@ -21,7 +21,7 @@ use Rattle.codes.proofs.Checking.{Allowed, allowed_of, of_allowed}
 use Rattle.codes.proofs.Calls.{readable_passed}
 use Rattle.codes.proofs.Coding.{allowed_unique, first_unique}
 use Rattle.codes.proofs.Cutting.{first_number_lem, first_passed}
-use Rattle.std.specs.Prelude.{Result, Ok, Err}
+use Rattle.std.specs.Prelude.{Result, Ok, Err, Option, Some, None}
 use Rattle.std.specs.Result.{result_ok}
 use Rattle.verdict.specs.Refusal.{number}
 use Rattle.verdict.specs.declared.Refusal.{Refusal}
@@ -288,6 +288,18 @@ better_settled cells {n} {g} {rule} {a} {b} {r = r} {s = s} p q = (picks_settled
 
 pub better_word_settled : {n g rule v w : ℕ} {a b : List ℕ} → Picks n g rule a b 1 2 (λ h. h ≡ 0) v → Picks n g rule a b 1 2 (λ h. h ≡ 0) w → v ≡ w
 better_word_settled = picks_settled (λ h. h) 0 ℕ_discrete
+
+-- and the word taken is known by its number
+pub taken_same : (v w : Option Taken) → taken_number v ≡ taken_number w → v ≡ w
+taken_same (Some TakenFirst) (Some TakenFirst) e = refl
+taken_same (Some TakenFirst) (Some TakenSecond) e = absurd (let f : ⊥ = omega (arith, e) in f)
+taken_same (Some TakenFirst) None e = absurd (let f : ⊥ = omega (arith, e) in f)
+taken_same (Some TakenSecond) (Some TakenFirst) e = absurd (let f : ⊥ = omega (arith, e) in f)
+taken_same (Some TakenSecond) (Some TakenSecond) e = refl
+taken_same (Some TakenSecond) None e = absurd (let f : ⊥ = omega (arith, e) in f)
+taken_same None (Some TakenFirst) e = absurd (let f : ⊥ = omega (arith, e) in f)
+taken_same None (Some TakenSecond) e = absurd (let f : ⊥ = omega (arith, e) in f)
+taken_same None None e = refl
 
 -- ---- the two calls together: the number is 0 exactly if cells are handed back
 

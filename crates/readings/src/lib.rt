@@ -89,5 +89,8 @@ pub fn better_number(
 pub fn better_word(n: usize, g: u64, rule: u64, first: &[u8], second: &[u8]) -> Option<Taken>
     ensures { Picks n g rule first.now second.now 1 2 (λ h. h ≡ 0) (taken_number result) }
 {
-    choose(n, g, rule, first, second).ok()
+    match choose(n, g, rule, first, second) {
+        Ok(taken) => Some(taken),
+        Err(_) => None,
+    }
 }

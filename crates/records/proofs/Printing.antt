@@ -49,7 +49,7 @@ module _ {records start out : List ℕ} {place i : ℕ} (h : Room records start)
   done_room = omega (arith, done_length, d.whole, d.within, d.room)
 
   -- the next sixteen bytes
-  done_bytes : i + 16 ≤ length records → length (take 16 (drop i records)) ≡ 16
+  pub done_bytes : i + 16 ≤ length records → length (take 16 (drop i records)) ≡ 16
   done_bytes l = length-take-le 16 (drop i records) (rw length-drop (omega arith))
 
   -- one record more

@@ -93,8 +93,22 @@ module _ (f : ℕ) (t : List ℕ) (k v : ℕ) where
 pub entered_none : (f n : ℕ) (t : List ℕ) → ((s : ℕ) → s < 2048 → get_or t (f * 2048 + s) 0 ≡ 255) → Entered f n 0 t
 entered_none f n t h s l = inr (h s l, λ k b. absurd (not-suc-le-zero b))
 
+-- entries that stay
+pub entered_kept : (f n m : ℕ) (t u : List ℕ) → ((s : ℕ) → s < 2048 → get_or u (f * 2048 + s) 0 ≡ get_or t (f * 2048 + s) 0) → Entered f n m t → Entered f n m u
+entered_kept f n m t u h e s l = rw (h s l) (e s l)
+
 -- the patterns of the families below f are entered, and no others
 pub record Filled (f : ℕ) (t : List ℕ) : Type 0 where
   pub long : length t ≡ 24576
   pub below : (h : ℕ) → h < f → Entered h (get_or lengths h 0) (pattern_count (get_or lengths h 0) (highest h)) t
   pub above : (h : ℕ) → f ≤ h → h < 12 → Entered h (get_or lengths h 0) 0 t
+
+-- one family more
+pub filled_more : (f : ℕ) (t u : List ℕ) → f < 12 → length u ≡ 24576 → Entered f (get_or lengths f 0) (pattern_count (get_or lengths f 0) (highest f)) u
+    → ((h s : ℕ) → h < 12 → s < 2048 → (h ≡ f → ⊥) → get_or u (h * 2048 + s) 0 ≡ get_or t (h * 2048 + s) 0) → Filled f t → Filled (f + 1) u
+filled_more f t u l long here others w = record {
+  long = long;
+  below = below_more (λ h. Entered h (get_or lengths h 0) (pattern_count (get_or lengths h 0) (highest h)) u) f
+      (λ h b. entered_kept h (get_or lengths h 0) (pattern_count (get_or lengths h 0) (highest h)) t u (λ s m. others h s (omega arith) m (λ e. omega arith)) (w.below h b)) here;
+  above = λ h a b. entered_kept h (get_or lengths h 0) 0 t u (λ s m. others h s b m (λ e. omega arith)) (w.above h (omega arith) b);
+}

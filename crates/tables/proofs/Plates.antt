@@ -1,6 +1,7 @@
 -- What a plate's facts say of its generator.
 -- Assumes nothing.
 use Rattle.std.proofs.Common.{◌≡◌, ◌+◌, ◌*◌, ◌≤◌, ◌<◌, ℕ, List, get_or, Option, None, Some, MatchOption, refl, sym, ap, ◌∙◌, arith}
+use Rattle.std.proofs.Math.Nat.{mul-le-mul}
 use Rattle.poly.specs.Poly.{Degree, Remainder}
 use Rattle.poly.proofs.Degree.{degree_unique}
 use Rattle.poly.proofs.Division.{remainder_unique}
@@ -38,6 +39,13 @@ module _ (p : Plate) where
 module _ (p : Plate) {rule : ℕ} (l : rule ≤ p.highest) where
   pub plate_carries : Carries (Pattern p.n rule) p.g
   plate_carries = rw (p.family.length, p.generator) (rule_carried p.f rule p.family.row (rw p.carried at l))
+
+  -- an entry of the rule is a place of the row
+  pub entry_within : {k : ℕ} → k ≤ p.n * rule → k ≤ 2 * p.n
+  entry_within b =
+      let same : p.n ≤ p.n = omega arith in
+      let known : rule ≤ 2 = omega (arith, p.carried, (plate_highest p).1) in
+      omega (arith, mul-le-mul same known)
 
   module _ {t : List ℕ} (filled : Places t) {s : ℕ} (small : s < 2048) where
     here : Place p.n p.g (pattern_count p.n p.highest) s (get_or t (p.f * 2048 + s) 0)

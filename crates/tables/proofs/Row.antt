@@ -1,6 +1,7 @@
 -- The pattern at a place of the row, and how many cells a pattern has.
 -- Assumes nothing.
 use mathlib.Core.Path.{◌≡◌, sym, ap, ◌∙◌}
+use mathlib.Core.Logic.{◌⊎◌, inl, inr}
 use Prim.Native.Nat.{ℕ, suc, ◌+◌, ◌-◌, ◌*◌, ◌%◌, ◌^◌, ◌≤◌, ◌<◌}
 use native.Mathlib.Nat.{one-mul}
 use native.Mathlib.Omega.{arith}
@@ -9,6 +10,7 @@ use lib.Dec.{lit<}
 use lib.Pow.{pow_pos, pow-lt, shl_exact}
 use Rattle.poly.specs.Poly.{sum}
 use Rattle.poly.proofs.Sum.{sum_shifted}
+use Rattle.poly.proofs.Coefficient.{lt_or_le}
 use Rattle.codes.specs.Mending.{Pattern, none, single, pair, ends}
 use Rattle.codes.specs.Row.{pattern_at}
 use Rattle.codes.proofs.Row.{at_none, at_single, at_pair, at_ends}
@@ -51,3 +53,26 @@ module _ (n k : ℕ) where
 
   pub row_ends : k ≡ 2 * n → 2 ≤ n → pattern_at n k ≡ sum (2 ^ (n - 1)) 1
   row_ends last two = ap (pattern_at n) (let e : k ≡ n + n = omega arith in e) ∙ at_ends n (omega arith)
+
+  -- ---- how many cells it has
+
+  pub none_cells : k ≡ 0 → 0 ≡ ones (pattern_at n k)
+  unfolding ones
+  none_cells z = rw (row_none z)
+
+  pub single_cells : 1 ≤ k → k ≤ n → 1 ≡ ones (pattern_at n k)
+  single_cells least most = rw (row_single least most, ones_power)
+
+  pair_cells : n < k → k < 2 * n → 2 ≡ ones (pattern_at n k)
+  pair_cells past within = rw (row_pair past within, ones_two (k - n - 1) (k - n) (omega arith))
+
+  ends_cells : k ≡ 2 * n → 2 ≤ n → 2 ≡ ones (pattern_at n k)
+  ends_cells last two = rw (row_ends last two, ones_two 0 (n - 1) (omega arith))
+
+  -- a pair of neighbours, or the ends
+  pub two_cells : 2 ≤ n → n < k → k ≤ 2 * n → 2 ≡ ones (pattern_at n k)
+  two_cells two past most = go (lt_or_le k (2 * n))
+    where
+      go : (k < 2 * n) ⊎ (2 * n ≤ k) → 2 ≡ ones (pattern_at n k)
+      go (inl l) = pair_cells past l
+      go (inr l) = ends_cells (omega arith) two

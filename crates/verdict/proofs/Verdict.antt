@@ -90,10 +90,15 @@ settles_refused cs o = settles_no cs o (omega arith)
 
 -- ---- other lists of checks
 
--- a check that passes can be left out at the head
+-- a check that passes can be left out, wherever it stands
 pub verdict_skip : (c : Check) (cs : List Check) {m : ℕ} → c.passes → Verdict (c ∷ cs) m → Verdict cs m
 verdict_skip c cs p (inl a) = absurd (a.0 p)
 verdict_skip c cs p (inr a) = a.1
+
+pub verdict_leave : (c : Check) (cs ds : List Check) (m : ℕ) → c.passes → Verdict (cs ++ (c ∷ ds)) m → Verdict (cs ++ ds) m
+verdict_leave c [] ds m p v = verdict_skip c ds p v
+verdict_leave c (d ∷ cs) ds m p (inl a) = inl a
+verdict_leave c (d ∷ cs) ds m p (inr a) = inr (a.0, verdict_leave c cs ds m p a.1)
 
 -- and one that asks the same can stand in its place
 pub verdict_map : (c d : Check) (cs ds : List Check) {m : ℕ} → c.number ≡ d.number → (c.passes → d.passes) → (d.passes → c.passes)

@@ -100,10 +100,13 @@ module _ (Word : ℕ → ℕ → ℕ → Type 0) {n g p m c : ℕ} (message word
     encode_word : Word g (poly message) c
     encode_word = rw encode_stands at (x.done encode_zero)
 
-    pub encode_done : {written : List ℕ → List ℕ → ℕ → List ℕ} → Stands Word written → EncodesCells Word n g message word (written message word c) 0
-    encode_done z =
-        settles_yes (code_checks n g ++ behind) tt (passed_on (code_checks n g) behind (of_code (encode_code f)) encode_right)
-        (c, encode_word, z n g c message word encode_word encode_length encode_right.1.0 encode_long)
+    -- any cells that stand for the word
+    pub encode_done : {word' : List ℕ} → Written n word' c → EncodesCells Word n g message word word' 0
+    encode_done z = settles_yes (code_checks n g ++ behind) tt (passed_on (code_checks n g) behind (of_code (encode_code f)) encode_right) (c, encode_word, z)
+
+    -- and so those that a rule writes
+    pub encode_written : {written : List ℕ → List ℕ → ℕ → List ℕ} → Stands Word written → EncodesCells Word n g message word (written message word c) 0
+    encode_written z = encode_done (z n g c message word encode_word encode_length encode_right.1.0 encode_long)
 
 -- ---- decoders
 

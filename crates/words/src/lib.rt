@@ -1,7 +1,7 @@
 // The calls on a code with words and messages as lent cells, first cell first.
 #![tactic(auto)]
 
-ghost use Rattle.std.specs.Prelude.{◌≡◌, List, ℕ, [], ◌∷◌, ◌++◌, ◌-◌, ◌≤◌, length};
+ghost use Rattle.std.specs.Prelude.{◌≡◌, List, ℕ, [], ◌∷◌, ◌++◌, ◌-◌, ◌≤◌, length, drop};
 ghost use Rattle.poly.specs.Cells.{cells};
 ghost use Rattle.cells.specs.Lent.{cells_check};
 ghost use Rattle.verdict.specs.Refusal.{number, value};
@@ -67,7 +67,7 @@ impl Coding for BySystematic {
     // The message's cells, then the check cells, which are the low digits of its word and are written into the tail of the lent word.
     fn write(message: &[u8], word: &mut [u8], value: u64) {
         let k = message.len();
-        word[..k].copy_from_slice(message);
+        copy_front(message, word);
         cells::write_number(&mut word[k..], value);
     }
 
@@ -100,6 +100,16 @@ impl Coding for ByProduct {
     ghost fits = { λ n g c d k p l a. product_fits p l a };
 }
 
+// Cells copied to the front of others. (By places: `copy_from_slice` would need C's `memmove` beside the library.)
+fn copy_front(from: &[u8], to: &mut [u8])
+    requires { length from.now ≤ length to.old }
+    ensures { to.new ≡ from.now ++ drop (length from.now) to.old }
+{
+    for (i, &cell) in from.iter().enumerate() {
+        to[i] = cell;
+    }
+}
+
 // The checks of lent cells behind those of a code: a message of k cells, a word of n, and input cells of 0 and 1. (n and g are no `Code`: the calls on numbers
 // check them and hand back none.)
 fn lent(n: usize, g: u64, message_len: usize, word_len: usize, input: &[u8]) -> Result<(), Refusal>
@@ -109,7 +119,8 @@ fn lent(n: usize, g: u64, message_len: usize, word_len: usize, input: &[u8]) -> 
     if message_len != n - poly::degree_of(g) || word_len != n {
         return Err(Refusal::Lent);
     }
-    cells::check(input)
+    cells::check(input)?;
+    Ok(())
 }
 
 // An encoder, with its word written into the lent cells. The call on numbers comes first, since code and rule are checked there, and there alone.

@@ -5,7 +5,7 @@ use lib.Seq.{take_all}
 use Rattle.poly.specs.Cells.{poly}
 use Rattle.poly.proofs.Cells.{poly-take-suc}
 use Rattle.verdict.proofs.Verdict.{where_holds, where_fails}
-use Rattle.cells.proofs.Lent.{first_bad_cells, first_bad_none, read_lt}
+use Rattle.cells.proofs.Lent.{first_bad_cells, first_bad_none, read_next}
 use Rattle.cells.proofs.number_of.Goals as goal
 use Rattle.cells.proofs.number_of.Goals.{then-word-gt63-via-then-word-gt63, then-word-gt63-via-else-word-gt63+then-first_bad-word}
 
@@ -24,10 +24,10 @@ unfolding poly
 loop-c-init c = refl
 
 pub overflow_mul-p : goal.overflow_mul-p
-overflow_mul-p c = omega (arith, read_lt c.first_bad.ensures c.if-first_bad-word.false (omega arith) (omega arith) c.loop-c.invariant)
+overflow_mul-p c = omega (arith, read_next c.first_bad.ensures c.if-first_bad-word.false (omega arith) (omega arith) c.loop-c.invariant)
 
 pub overflow_add-p : goal.overflow_add-p
-overflow_add-p c = omega (arith, read_lt c.first_bad.ensures c.if-first_bad-word.false (omega arith) (omega arith) c.loop-c.invariant)
+overflow_add-p c = omega (arith, read_next c.first_bad.ensures c.if-first_bad-word.false (omega arith) (omega arith) c.loop-c.invariant)
 
 pub loop-c-preserved : goal.loop-c-preserved
 loop-c-preserved c =

@@ -12,4 +12,4 @@ shift-s-requires g c = fit_ready c.requires c.loop-c.c-index c.loop-c.invariant.
 pub loop-c-preserved : goal.loop-c-preserved
 loop-c-preserved g c =
     let l = c.loop-c in
-    rw (add-one, poly-take-suc c.args.dividend.now l.c-index c.loop-c-test.true) (c.shift-s.ensures _ l.invariant)
+    rw (add-one, poly-take-suc c.args.dividend.now l.c-index c.loop-c-test.true) (c.shift-s.ensures.keeps _ l.invariant)

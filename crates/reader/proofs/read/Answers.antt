@@ -15,7 +15,7 @@ use Rattle.codes.proofs.Checking.{allowed_of, generator_r, message_room, message
 use Rattle.reader.specs.Reader.{Starts}
 use Rattle.reader.specs.declared.Reader.{Reader}
 use Rattle.reader.proofs.Form.{found_degree}
-use Rattle.reader.proofs.Run.{reached_own}
+use Rattle.reader.proofs.Run.{reached_last}
 use Rattle.reader.proofs.Answering.{reader_decodes}
 use native.Mathlib.Nat.{le_of_lt}
 use native.Mathlib.Omega.{arith}
@@ -77,5 +77,5 @@ returns c =
     let a = c.args in
     let code = passed c.in_ok-first.ensures in
     reader_decodes code a.word.now c.if-word-n.false c.in_ok-check.ensures c.through.result
-    (reached_own a.word.now c.through.result (c.in_ok-first.ensures.done refl) c.through.ensures)
+    (reached_last a.word.now c.through.result (c.in_ok-first.ensures.done refl) c.through.ensures)
     a.message.now c.answer.ensures

@@ -2,5 +2,8 @@
 use Rattle.readings.proofs.Choosing.{picks_word}
 use Rattle.readings.proofs.better_word.Goals as goal
 
-pub returns : goal.returns
-returns c = rw c.ok.ensures.value (picks_word c.choose.result c.choose.ensures)
+pub returns-in-Ok : goal.returns-in-Ok
+returns-in-Ok c = rw c.in-Ok.is at (picks_word c.choose.result c.choose.ensures)
+
+pub returns-in-Err : goal.returns-in-Err
+returns-in-Err c = rw c.in-Err.is at (picks_word c.choose.result c.choose.ensures)

@@ -1,7 +1,12 @@
 -- Lengths first, then the cells.
 use mathlib.Core.Logic.{inl, inr}
 use mathlib.Core.Path.{refl}
-use Rattle.words.proofs.Lending.{length_room, length_right, message_wrong, word_wrong, cells_verdict}
+use Rattle.words.proofs.Lending.{length_room, length_right, message_wrong, word_wrong}
+use Prim.Native.Nat.{ℕ}
+use borrow.Author.Rules.{rules}
+use lib.Seq.{take-length}
+use native.Mathlib.Omega.{arith}
+use Rattle.poly.specs.Cells.{Cells}
 use Rattle.words.proofs.lent.Goals as goal
 use Rattle.words.proofs.lent.Goals.{then-message_len-n-via-then-message_len-n, then-message_len-n-via-else-message_len-n+then-word_len-n}
 
@@ -18,6 +23,12 @@ returns-then-message_len-n c =
       refl,
     )
 
+pub returns-in_err-check : goal.returns-in_err-check
+returns-in_err-check c =
+    let bad : Cells c.args.input.now → ⊥ = grind (arith, take-length {A = ℕ}) in
+    inr ((length_right c.requires c.degree_of.ensures c.if-message_len-n.false, c.if-word_len-n.false), inl (bad, search rules))
+
 pub returns : goal.returns
 returns c =
-    inr ((length_right c.requires c.degree_of.ensures c.if-message_len-n.false, c.if-word_len-n.false), cells_verdict c.args.input.now c.check.result c.check.ensures)
+    let fine : Cells c.args.input.now = grind (arith, take-length {A = ℕ}) in
+    inr ((length_right c.requires c.degree_of.ensures c.if-message_len-n.false, c.if-word_len-n.false), inr (fine, refl))

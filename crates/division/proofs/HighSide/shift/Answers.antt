@@ -7,5 +7,8 @@ use Rattle.division.proofs.HighSide.shift.Goals as goal
 pub overflow_mul-result : goal.overflow_mul-result
 overflow_mul-result c = omega (arith, high_fed c.requires)
 
-pub returns : goal.returns
-returns c = λ p v. rw (high-shifted c.requires) (remainder_high_lem p c.args.c c.requires.input c.requires.degree v)
+pub returns-clause-made : goal.returns-clause-made
+returns-clause-made c = high-shifted c.requires
+
+pub returns-clause-keeps : goal.returns-clause-keeps
+returns-clause-keeps c = λ p v. rw (high-shifted c.requires) (remainder_high_lem p c.args.c c.requires.input c.requires.degree v)

@@ -48,4 +48,4 @@ returns c =
     let k = own c.in_ok-formed.formed (rw c.in_ok-formed.ensures.ok_part at c.new.ensures.some) in
     settles_yes (checks c.args.self c.args.message.now) tt
     ((k.0, c.if-self.false), (message_room k.1.degree (le_of_lt k.2) c.if-message-self.false, (sym c.held_in.ensures ∙ c.if-held_in-ne0.false, tt)))
-    (c.copy_from_slice.ensures.after, refl)
+    (c.copy_first.ensures, refl)

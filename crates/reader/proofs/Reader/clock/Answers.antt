@@ -1,13 +1,13 @@
 -- The checks 11 and 7 in their order, and then a load or a look.
 use mathlib.Core.Logic.{inl, inr}
 use mathlib.Core.Path.{refl}
-use Rattle.reader.proofs.Form.{opened_own, clock_done, clock_refused}
+use Rattle.reader.proofs.Form.{opened_own, clock_done, clock_given_back}
 use native.Mathlib.Omega.{arith}
 use Rattle.reader.proofs.Reader.clock.Goals as goal
 
 pub returns-then-cell-gt1 : goal.returns-then-cell-gt1
 returns-then-cell-gt1 c =
-    clock_refused _ _
+    clock_given_back _ _
     (inr (
       (opened_own c.in-Some.ensures.some c.in-Some.formed.form, c.if-self.false),
       inl (λ p. let n : ⊥ = grind (arith, p.0, p.1) in n, refl),
