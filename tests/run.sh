@@ -20,6 +20,10 @@ gcc -O2 -Wall -Wextra -Werror -Iinclude tests/c/calls.c -Lcrates/plate/out -lpla
 "$out/calls" <crates/calls/stdin >"$out/stdout"
 cmp "$out/stdout" crates/calls/stdout
 echo "tests: the C calls are as expected"
+# Two names from outside, which a C library has and most systems without one.
+outside=$(nm -u crates/plate/out/libplate.a | awk '$1 == "U" { print $2 }' | sort -u | tr '\n' ' ')
+[ "$outside" = "memcpy memset " ] || { echo "tests: the library needs $outside"; exit 1; }
+echo "tests: the library needs memcpy and memset, and nothing else"
 CARGO_TARGET_DIR="$out/cargo" cargo test --quiet --offline --manifest-path rust/plate/Cargo.toml >"$out/cargo.log" 2>&1 || { cat "$out/cargo.log"; exit 1; }
 echo "tests: the Rust calls are as expected"
 
@@ -32,6 +36,10 @@ gcc -O2 -Wall -Wextra -Werror -Iinclude examples/read.c -Lcrates/plate/out -lpla
 CARGO_TARGET_DIR="$out/cargo" cargo run --quiet --offline --manifest-path rust/plate/Cargo.toml --example read >"$out/read.log" 2>&1 || { cat "$out/read.log"; exit 1; }
 [ "$(cat "$out/read.log")" = "message [1, 1, 0, 1], 1 cell mended" ]
 echo "tests: the programs that README.md shows are as expected"
+
+[ -x crates/calls/out/calls ] || (cd crates/calls && rt run </dev/null >/dev/null)
+python3 -B tests/calls/waiting.py crates/calls/out/calls
+echo "tests: calls answers a full input, and reads no more behind the end"
 
 bash tests/strips/run.sh
 
