@@ -1,7 +1,7 @@
 #!/bin/sh
-# The library from C and from Rust: the calls on the lines that the second program made, compared with what it expects; the programs that README.md
-# shows; and the program `strips` and its script (tests/strips). It proves and builds what it runs; gcc and cargo are installed where they are
-# missing, and GNU parallel where it can be had.
+# The library from C and from Rust: the calls on the lines that the second program made, compared with what it expects, and the names that the archive
+# needs from outside; the programs that README.md shows; who waits for the program `calls` (tests/calls); and the program `strips` and its script
+# (tests/strips). It proves and builds what it runs; gcc and cargo are installed where they are missing, and GNU parallel where it can be had.
 set -eu
 unset CDPATH
 cd "$(dirname "$0")/.."
@@ -20,7 +20,7 @@ gcc -O2 -Wall -Wextra -Werror -Iinclude tests/c/calls.c -Lcrates/plate/out -lpla
 "$out/calls" <crates/calls/stdin >"$out/stdout"
 cmp "$out/stdout" crates/calls/stdout
 echo "tests: the C calls are as expected"
-# Two names from outside, which a C library has and most systems without one.
+# What the archive needs from outside: two names that a C library has, and so have most machines without one.
 outside=$(nm -u crates/plate/out/libplate.a | awk '$1 == "U" { print $2 }' | sort -u | tr '\n' ' ')
 [ "$outside" = "memcpy memset " ] || { echo "tests: the library needs $outside"; exit 1; }
 echo "tests: the library needs memcpy and memset, and nothing else"
@@ -37,8 +37,9 @@ CARGO_TARGET_DIR="$out/cargo" cargo run --quiet --offline --manifest-path rust/p
 [ "$(cat "$out/read.log")" = "message [1, 1, 0, 1], 1 cell mended" ]
 echo "tests: the programs that README.md shows are as expected"
 
-[ -x crates/calls/out/calls ] || (cd crates/calls && rt run </dev/null >/dev/null)
-python3 -B tests/calls/waiting.py crates/calls/out/calls
+calls=crates/calls/out/calls
+[ -x "$calls" ] && [ -z "$(find crates crates.txt -name out -prune -o -newer "$calls" -print -quit)" ] || (cd crates/calls && rt run </dev/null >/dev/null)
+python3 -B tests/calls/waiting.py "$calls"
 echo "tests: calls answers a full input, and reads no more behind the end"
 
 bash tests/strips/run.sh

@@ -83,10 +83,10 @@ impl<'a> Fields<'a> {
             if !first.is_ascii_digit() {
                 break;
             }
-            let digit = u64::from(*first - b'0');
+            let lowest = u64::from(*first - b'0');
             value = value
                 .checked_mul(10)
-                .and_then(|v| v.checked_add(digit))
+                .and_then(|v| v.checked_add(lowest))
                 .ok_or(Unclear)?;
             rest = behind;
         }

@@ -34,11 +34,21 @@ impl Output {
         }
     }
 
-    // Cells as one text, `-` for none. (By hand and no `Display`: with a call for each cell a reader's cells took twice as long.)
+    // Cells as one text, `-` for none. (By hand and no `Display`: with a call for each cell a reader's cells took twice as long. Where each is 0 or 1, as most
+    // are, they go there at once.)
     pub(crate) fn cells(&mut self, cells: &[u8]) {
         let mut end = self.filled;
+        let behind = end.saturating_add(cells.len());
         if cells.is_empty() {
             end = put(&mut self.bytes, end, b'-');
+        } else if cells.iter().all(|&cell| cell < 2)
+            && let Some(room) = self.bytes.get_mut(end..behind)
+        {
+            for (digit, &cell) in room.iter_mut().zip(cells) {
+                *digit = b'0' | cell;
+            }
+            self.filled = behind;
+            return;
         }
         for &cell in cells {
             if cell < 2 {
