@@ -1,6 +1,6 @@
 #!/bin/sh
 # The library from C and from Rust: the calls on the lines that the second program made, compared with what it expects, and the names that the archive
-# needs from outside; the programs that README.md shows; who waits for the program `calls` (tests/calls); and the program `strips` and its script
+# needs from outside; the programs that README.md shows; the streams of the program `calls` (tests/calls); and the program `strips` and its script
 # (tests/strips). It proves and builds what it runs; gcc and cargo are installed where they are missing, and GNU parallel where it can be had.
 set -eu
 unset CDPATH
@@ -39,8 +39,8 @@ echo "tests: the programs that README.md shows are as expected"
 
 calls=crates/calls/out/calls
 [ -x "$calls" ] && [ -z "$(find crates crates.txt -name out -prune -o -newer "$calls" -print -quit)" ] || (cd crates/calls && rt run </dev/null >/dev/null)
-python3 -B tests/calls/waiting.py "$calls"
-echo "tests: calls answers a full input, and reads no more behind the end"
+python3 -B tests/calls/streams.py "$calls"
+echo "tests: the streams of calls are as expected"
 
 bash tests/strips/run.sh
 
